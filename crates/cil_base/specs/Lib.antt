@@ -1,0 +1,6 @@
+pub mod Numbers
+pub mod Packed
+pub mod Tokens
+pub mod Causes
+pub mod Rules
+pub mod Refusals
