@@ -57,6 +57,7 @@ first_is_first k (t ∷ ts) h = go (first_is_first (key t.refusal) ts h.1) t.fai
     later : (b : Bool) (o : Option Refusal) → t.fails ≡ false → MatchOption o ((r : Refusal) → Fails ts r → ⊥) (First (Fails ts)) → MatchOption o ((r : Refusal) → Fails (t ∷ ts) r → ⊥) (First (Fails (t ∷ ts)))
     later b None e m = λ r. elim [ inl f ↦ absurd cc | inr f ↦ m r f ]
     later b (Some s) e m = record { broken = inr m.broken; none_before = λ r. elim [ inl f ↦ absurd cc | inr f ↦ m.none_before r f ] }
+
     go : MatchOption (first_of ts) ((r : Refusal) → Fails ts r → ⊥) (First (Fails ts)) → (b : Bool) → t.fails ≡ b → MatchOption (cond b (Some t.refusal) (first_of ts)) ((r : Refusal) → Fails (t ∷ ts) r → ⊥) (First (Fails (t ∷ ts)))
     go m true e = record { broken = inl (e, refl); none_before = λ r. elim [ inl f ↦ subst (λ (s : Refusal). is_less (key s) (key t.refusal) ≡ false) f.1 (less_refl (key t.refusal)) | inr f ↦ none_below (key t.refusal) ts h.1 r f ] }
     go m false e = later false (first_of ts) e m

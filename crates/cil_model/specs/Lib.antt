@@ -1,0 +1,2 @@
+pub mod SmallMeaning
+pub mod SmallCode
