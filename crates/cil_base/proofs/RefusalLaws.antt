@@ -1,9 +1,11 @@
 -- The first test that fails is the first refusal, where the places of the tests don't fall.
-use Rattle.std.proofs.Common.{◌≡◌, ℕ, zero, suc, ◌+◌, ◌<◌, ◌≤◌, Bool, true, false, cond, ltb, eqb, ◌||◌, ◌&&◌, List, [], ◌∷◌, Option, Some, None, refl, sym, ap, subst, ◌∙◌, inl, inr, ◌⊎◌, arith}
+use Rattle.std.proofs.Common.{◌≡◌, ℕ, zero, suc, ◌+◌, ◌<◌, ◌≤◌, Bool, true, false, cond, ltb, eqb, ◌||◌, ◌&&◌, List, [], ◌∷◌, Option, Some, None, refl, sym, ap, subst, ◌∙◌, inl, inr, ◌⊎◌, arith, Result, Ok, Err}
 use Rattle.std.specs.Prelude.{MatchOption}
 use Rattle.std.proofs.lemmas.Bool.{ltb-true, lt-ltb, ltb-false, le-ltb, eqb-true}
 use Rattle.cil_base.specs.declared.refusal.Refusal.{Refusal}
-use Rattle.cil_base.specs.Refusals.{key, is_less, First, Test, Fails, first_of}
+use Rattle.cil_base.specs.declared.refusal.Fault.{Fault}
+use Rattle.cil_base.specs.declared.refusal.Fault.TheVariants.{Refused, Memory}
+use Rattle.cil_base.specs.Refusals.{key, is_less, First, Test, Fails, first_of, IfRefused, OnRefused}
 
 or_false : (p q : Bool) → (p || q) ≡ false → (p ≡ false) × (q ≡ false)
 or_false true q h = absurd cc
@@ -61,3 +63,13 @@ first_is_first k (t ∷ ts) h = go (first_is_first (key t.refusal) ts h.1) t.fai
     go : MatchOption (first_of ts) ((r : Refusal) → Fails ts r → ⊥) (First (Fails ts)) → (b : Bool) → t.fails ≡ b → MatchOption (cond b (Some t.refusal) (first_of ts)) ((r : Refusal) → Fails (t ∷ ts) r → ⊥) (First (Fails (t ∷ ts)))
     go m true e = record { broken = inl (e, refl); none_before = λ r. elim [ inl f ↦ subst (λ (s : Refusal). is_less (key s) (key t.refusal) ≡ false) f.1 (less_refl (key t.refusal)) | inr f ↦ none_below (key t.refusal) ts h.1 r f ] }
     go m false e = later false (first_of ts) e m
+
+-- ---- what a call answers
+
+pub IfRefused-weaker : (fault : Fault) (P Q : Refusal → Type 0) → ((r : Refusal) → P r → Q r) → IfRefused fault P → IfRefused fault Q
+IfRefused-weaker (Refused r) P Q f h = f r h
+IfRefused-weaker (Memory e) P Q f h = tt
+
+pub OnRefused-weaker : {T : Type 0} (result : Result T Fault) (P Q : Refusal → Type 0) → ((r : Refusal) → P r → Q r) → OnRefused result P → OnRefused result Q
+OnRefused-weaker (Ok x) P Q f h = tt
+OnRefused-weaker (Err fault) P Q f h = IfRefused-weaker fault P Q f h

@@ -1,11 +1,13 @@
 -- What bytes stand for a body.
-use Rattle.std.specs.Prelude.{◌≡◌, ◌≢◌, ◌⊎◌, ◌≤◌, MatchOption, ℕ, zero, suc, ◌+◌, ◌-◌, ◌*◌, ◌/◌, ◌%◌, ◌^◌, ◌<◌, Bool, true, false, ◌==◌, ◌&&◌, ◌||◌, get_or, not, nat_lt, nat_le, if◌then◌else◌, List, [], ◌∷◌, ◌++◌, length, map, take, drop, ℤ, pos, negsuc, ◌-ℤ◌, ◌+ℤ◌, slice_get, Option, Some, None, Result, Ok, Err, IsTrue}
+use Rattle.std.specs.Prelude.{◌≡◌, ◌≢◌, ◌⊎◌, ◌≤◌, ℕ, zero, suc, ◌+◌, ◌-◌, ◌*◌, ◌/◌, ◌%◌, ◌^◌, ◌<◌, Bool, true, false, ◌==◌, ◌&&◌, ◌||◌, get_or, not, nat_lt, nat_le, if◌then◌else◌, List, [], ◌∷◌, ◌++◌, length, map, take, drop, ℤ, pos, negsuc, ◌-ℤ◌, ◌+ℤ◌, slice_get, Option, Some, None, Result, Ok, Err, IsTrue}
 use Rattle.std.specs.Int.{w8, w16, w32, cast_signed, from_le_bytes, to_le_bytes}
 use Rattle.cil_base.specs.declared.token.Token.{Token}
 use Rattle.cil_base.specs.declared.rule.Rule.{Rule}
 use Rattle.cil_base.specs.declared.rule.Rule.TheVariants.{I1, I2, I5}
 use Rattle.cil_base.specs.declared.refusal.Place.{Place}
 use Rattle.cil_base.specs.declared.refusal.Refusal.{Refusal}
+use Rattle.cil_base.specs.Refusals.{refusal}
+use Rattle.cil_base.specs.Tokens.{token_of, token_number}
 use Rattle.cil_model.specs.SmallMeaning.{is_requires}
 use Rattle.cil_model.specs.declared.body.Operand.{Operand}
 use Rattle.cil_model.specs.declared.body.Operand.TheVariants.{Nothing, Int, Index, Target, Targets, Tok}
@@ -23,10 +25,6 @@ Reading = Result (Instr × ℕ) Rule
 -- n bytes of an operand, if they are there
 abbrev pub with_bytes : ℕ → List ℕ → Instr → Reading
 with_bytes n rest i = if nat_lt (length rest) n then Err I2 else Ok (i, n + 1)
-
--- a token: the row in three bytes and the table in one
-abbrev pub token_of : ℕ → Token
-token_of v = record { table = v / 2 ^ 24; row = v % 2 ^ 24 }
 
 -- the second byte of a code of two
 abbrev pub second : Option ℕ → Reading
@@ -109,11 +107,12 @@ fat_header init max_stack size locals =
 
 abbrev pub locals_number : Option Token → ℕ
 locals_number None = 0
-locals_number (Some token) = token.table * 2 ^ 24 + token.row
+locals_number (Some token) = token_number token
 
 -- the header and what it says of the body
 pub record IsTinyBody (bytes code : List ℕ) (body : Body) : Type 0 where
   pub header : tiny_code bytes ≡ Some code
+  pub small : length code < 64
   pub stack : body.max_stack ≡ 8
   pub init : body.init ≡ false
   pub locals : body.locals ≡ None
@@ -138,13 +137,17 @@ fits a op (Target k) = false
 fits a op (Targets ks) = false
 fits a op (Tok assembly token) = (op == 0x28) && ((assembly == a) && (nat_lt token.table 256 && nat_lt token.row (2 ^ 24)))
 
-abbrev pub is_absent : Option Token → Bool
+abbrev pub is_absent : {T : Type 0} → Option T → Bool
 is_absent None = true
-is_absent (Some token) = false
+is_absent (Some x) = false
+
+-- no prefix, and nothing that stands for type parameters
+abbrev pub is_bare_instr : Instr → Bool
+is_bare_instr i = is_absent i.constrained && ((i.prefixes == 0) && is_absent i.under)
 
 -- an instruction of the table that is no branch
 abbrev pub is_plain : ℕ → Instr → Bool
-is_plain a i = fits a i.op i.operand && (is_absent i.constrained && (i.prefixes == 0))
+is_plain a i = fits a i.op i.operand && is_bare_instr i
 
 abbrev pub AllPlain : ℕ → List Instr → Type 0
 AllPlain a [] = Unit {0}
@@ -161,11 +164,12 @@ pub record SmallBodyOf (a : ℕ) (bytes : List ℕ) (body : Body) : Type 0 where
   pub instrs : Reads (IsSmallFirst a) 0 code body.instrs body.offsets (length code) []
   pub plain : AllPlain a body.instrs
 
-abbrev pub refusal : Rule → Place → ℕ → Refusal
-refusal rule place at = record { rule = rule; assembly = place.assembly; table = place.table; row = place.row; at = at }
+-- The bytes aren't a tiny header and the code that it tells of, and no more.
+abbrev pub HeaderBreaks : Place → List ℕ → Refusal → Type 0
+HeaderBreaks place bytes r = (tiny_code bytes ≡ None) × (r ≡ refusal I5 place 0)
 
--- the code's first fault from the left: the instructions before it, and the rule that the next breaks
-pub record CodeBreaks (place : Place) (code : List ℕ) (r : Refusal) : Type 0 where
+-- Behind instructions that are read stands one that breaks a rule.
+pub record CodeBreaksIn (place : Place) (code : List ℕ) (r : Refusal) : Type 0 where
   pub before : List Instr
   pub offsets : List ℕ
   pub at : ℕ
@@ -176,9 +180,8 @@ pub record CodeBreaks (place : Place) (code : List ℕ) (r : Refusal) : Type 0 w
   pub broken : small_at place.assembly rest ≡ Err rule
   pub is : r ≡ refusal rule place at
 
--- why bytes are no small body
-abbrev pub SmallBreaks : Place → List ℕ → Refusal → Type 0
-SmallBreaks place bytes r = MatchOption (tiny_code bytes) (r ≡ refusal I5 place 0) (λ code. CodeBreaks place code r)
+abbrev pub CodeBreaks : Place → List ℕ → Refusal → Type 0
+CodeBreaks place bytes r = (code : List ℕ) × (tiny_code bytes ≡ Some code) × CodeBreaksIn place code r
 
 -- the shortest spelling of a ldc.i4
 abbrev pub number : ℤ → List ℕ
@@ -196,7 +199,7 @@ spelled places at op (Index k) = (k + 2) ∷ []
 spelled places at op (Int z) = number z
 spelled places at op (Target k) = 0x3A ∷ to_le_bytes w32 (displacement (get_or places k 0) (at + 5))
 spelled places at op (Targets ks) = []
-spelled places at op (Tok assembly token) = 0x28 ∷ to_le_bytes w32 (token.table * 2 ^ 24 + token.row)
+spelled places at op (Tok assembly token) = 0x28 ∷ to_le_bytes w32 (token_number token)
 
 abbrev pub spelling : List ℕ → ℕ → Instr → List ℕ
 spelling places at i = spelled places at i.op i.operand
@@ -222,7 +225,7 @@ is_target_below count o = false
 
 -- a long brtrue to one of so many places
 abbrev pub is_branch_to : ℕ → Instr → Bool
-is_branch_to count i = (i.op == 0x3A) && (is_target_below count i.operand && (is_absent i.constrained && (i.prefixes == 0)))
+is_branch_to count i = (i.op == 0x3A) && (is_target_below count i.operand && is_bare_instr i)
 
 -- what encode_body writes
 abbrev pub AllWritable : ℕ → ℕ → List Instr → Type 0

@@ -1,0 +1,5 @@
+pub mod Same
+pub mod CallLaws
+pub mod Accepted
+pub mod AnswerLaws
+pub mod Commands

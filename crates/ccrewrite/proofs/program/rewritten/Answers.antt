@@ -1,0 +1,24 @@
+use Rattle.std.proofs.Common.{refl}
+use Rattle.ccrewrite.proofs.AnswerLaws.{replied_by, ok_and, bytes_refused, within_refused, no_memory, from_written}
+use Rattle.ccrewrite.specs.Program.{FromBytes}
+use Rattle.ccrewrite.proofs.program.rewritten.Goals as goal
+
+pub returns-in-Err-Refused-clause-answer : goal.returns-in-Err-Refused-clause-answer
+returns-in-Err-Refused-clause-answer g c =
+    let tells = g.S.Store.tells c.args.store.now in
+    let files = g.S.Store.file c.args.store.now in
+    let count = g.S.Store.faults c.args.store.now in
+    let bytes = c.args.bytes.now in
+    let output = c.args.output.now in
+    let refusal = within_refused bytes c.in-Err-Refused.r c.requires (rw c.in-Err-Refused.field-0-is at c.in-Err-Refused.ensures.refused) in
+    replied_by (FromBytes tells files files count count bytes output) c.refused.result
+    (ok_and c.refused.result _ _ (λ a e. bytes_refused tells files count bytes output c.in-Err-Refused.r a.status _ refusal e) c.refused.ensures)
+    (no_memory tells files files count count bytes output (λ t name. refl))
+
+pub returns-in-Ok-clause-answer : goal.returns-in-Ok-clause-answer
+returns-in-Ok-clause-answer g c =
+    let store = c.args.store.now in
+    let new = c.written.new.store in
+    from_written (g.S.Store.tells store) (g.S.Store.file store) (g.S.Store.file new) (g.S.Store.faults store) (g.S.Store.faults new)
+    c.args.bytes.now c.args.output.now c.in-Ok.done.bytes c.in-Ok.done.clauses c.written.result
+    c.requires c.in-Ok.ensures.done c.in-Ok.ensures.accepted c.written.ensures.done c.written.ensures.failed c.written.ensures.kept c.written.ensures.only

@@ -1,0 +1,5 @@
+pub mod Splice
+pub mod Text
+pub mod Words
+pub mod Program
+pub mod Replies

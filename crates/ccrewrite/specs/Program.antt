@@ -1,0 +1,145 @@
+-- What the program answers, and when.
+use Rattle.std.specs.Prelude.{◌≡◌, ◌≢◌, ◌⊎◌, ℕ, ◌*◌, ◌^◌, ◌<◌, ◌≤◌, Bool, List, [], ◌∷◌, ◌++◌, length, take, Option, Some, None, IsTrue, IsSome}
+use Rattle.cil_base.specs.Causes.{Rose}
+use Rattle.cil_base.specs.Refusals.{First, NoneBroken, InTurn}
+use Rattle.cil_base.specs.declared.rule.Rule.TheVariants.{L1}
+use Rattle.cil_base.specs.declared.refusal.Place.{Place}
+use Rattle.cil_base.specs.declared.refusal.Refusal.{Refusal}
+use Rattle.cil_model.specs.declared.body.Body.{Body}
+use Rattle.cil_model.specs.SmallMeaning.{SameBody}
+use Rattle.cil_model.specs.SmallCode.{BodyOf, SmallBodyOf, HeaderBreaks, CodeBreaks}
+use Rattle.outside_core.specs.Store.{Files, SameFiles}
+use Rattle.ccrewrite.specs.Splice.{CallBreaks, clause_count, first_call}
+use Rattle.ccrewrite.specs.Text.{done_text, refusal_text, words_text, store_text, memory_text}
+use Rattle.ccrewrite.specs.Words.{wrong_word, IsBodyCommand}
+
+-- ---- what `body` makes of a file
+
+-- where a body file's body stands
+abbrev pub body_place : Place
+body_place = record { assembly = 0; table = 0; row = 0 }
+
+-- The new bytes stand for a body that does what the old bytes' body does, with its calls of Requires made checks.
+pub record IsRewriting (old new : List ℕ) (clauses : ℕ) : Type 0 where
+  pub before : Body
+  pub after : Body
+  pub reads : SmallBodyOf 0 old before
+  pub writes : BodyOf 0 new after
+  pub same : SameBody before after
+  pub count : clauses ≡ clause_count (first_call before.instrs)
+
+abbrev pub size_limit : ℕ
+size_limit = 64 * 2 ^ 20
+
+-- the refusal of a file that is too long
+abbrev pub too_long : Refusal
+too_long = record { rule = L1; assembly = 0; table = 0; row = 0; at = 67108865 }
+
+abbrev pub SizeBreaks : List ℕ → Refusal → Type 0
+SizeBreaks bytes r = (size_limit < length bytes) × (r ≡ too_long)
+
+-- the calls of Requires in the body that the bytes stand for
+abbrev pub ContractBreaks : List ℕ → Refusal → Type 0
+ContractBreaks bytes r = (body : Body) × SmallBodyOf 0 bytes body × CallBreaks body_place body r
+
+-- the rules on what a file within the limit has in it, layer by layer
+abbrev pub IsBodyRefusal : List ℕ → Refusal → Type 0
+IsBodyRefusal bytes = InTurn (HeaderBreaks body_place bytes) (InTurn (CodeBreaks body_place bytes) (First (ContractBreaks bytes)))
+
+-- The file is refused by this: the first broken rule.
+abbrev pub IsRefusal : List ℕ → Refusal → Type 0
+IsRefusal bytes = InTurn (SizeBreaks bytes) (IsBodyRefusal bytes)
+
+pub record KeepsBodyRules (bytes : List ℕ) : Type 0 where
+  pub header : NoneBroken (HeaderBreaks body_place bytes)
+  pub code : NoneBroken (CodeBreaks body_place bytes)
+  pub contracts : NoneBroken (ContractBreaks bytes)
+
+-- No rule is broken.
+pub record IsAccepted (bytes : List ℕ) : Type 0 where
+  pub size : NoneBroken (SizeBreaks bytes)
+  pub body : KeepsBodyRules bytes
+
+-- ---- the statuses of `body`
+
+-- The bytes stand under the name, and the other names hold what they held.
+pub record PutsFile (old new : Files) (output bytes : List ℕ) : Type 0 where
+  pub there : new output ≡ Some bytes
+  pub others : (name : List ℕ) → name ≢ output → new name ≡ old name
+
+-- OUT holds the rewriting of what IN held, and the other names what they held.
+pub record IsDone (old new : Files) (text input output : List ℕ) : Type 0 where
+  pub from : List ℕ
+  pub to : List ℕ
+  pub clauses : ℕ
+  pub in_file : old input ≡ Some from
+  pub out_file : PutsFile old new output to
+  pub rewriting : IsRewriting from to clauses
+  pub accepted : IsAccepted from
+  pub prints : text ≡ done_text clauses
+
+-- IN breaks a rule, and this is the refusal.
+pub record IsRefused (old : Files) (text input : List ℕ) : Type 0 where
+  pub from : List ℕ
+  pub refusal : Refusal
+  pub in_file : old input ≡ Some from
+  pub breaks : IsRefusal from refusal
+  pub prints : text ≡ refusal_text refusal
+
+-- A file of the words can't be read or written: the count rose, or IN is missing.
+pub record StoreFailed (tells : Bool) (old : Files) (before now : ℕ) (text input output : List ℕ) : Type 0 where
+  pub name : List ℕ
+  pub named : (name ≡ input) ⊎ (name ≡ output)
+  pub cause : Rose before now ⊎ (IsTrue tells × (name ≡ input) × (old input ≡ None))
+  pub prints : text ≡ store_text name
+
+-- What becomes of bytes that were read from IN: of OUT, by the status.
+pub record FromBytes (tells : Bool) (old new : Files) (before now : ℕ) (bytes output : List ℕ) (status : ℕ) (text : List ℕ) : Type 0 where
+  pub done : status ≡ 0 → (now ≡ before) × IsAccepted bytes × ((to : List ℕ) × (clauses : ℕ) × IsRewriting bytes to clauses × (text ≡ done_text clauses) × (IsTrue tells → PutsFile old new output to))
+  pub refused : status ≡ 1 → (now ≡ before) × ((r : Refusal) × IsRefusal bytes r × (text ≡ refusal_text r))
+  pub failed : status ≡ 3 → Rose before now × (text ≡ store_text output)
+  pub memory : status ≡ 5 → text ≡ memory_text
+  pub kept : status ≢ 0 → IsTrue tells → SameFiles old new
+  pub only : (status ≡ 0) ⊎ (status ≡ 1) ⊎ (status ≡ 3) ⊎ (status ≡ 5)
+
+-- What `body` does with IN and OUT, by its status: the files and the count of faults before and after, and the text.
+pub record BodyAnswer (tells : Bool) (old new : Files) (before now : ℕ) (input output : List ℕ) (status : ℕ) (text : List ℕ) : Type 0 where
+  pub done : status ≡ 0 → (now ≡ before) × (IsTrue tells → IsDone old new text input output)
+  pub refused : status ≡ 1 → (now ≡ before) × (IsTrue tells → IsRefused old text input)
+  pub failed : status ≡ 3 → StoreFailed tells old before now text input output
+  pub memory : status ≡ 5 → text ≡ memory_text
+  pub kept : status ≢ 0 → IsTrue tells → SameFiles old new
+  pub only : (status ≡ 0) ⊎ (status ≡ 1) ⊎ (status ≡ 3) ⊎ (status ≡ 5)
+
+-- Wrong words: nothing is asked of the store.
+pub record WrongAnswer (old new : Files) (before now : ℕ) (place status : ℕ) (text : List ℕ) : Type 0 where
+  pub wrong : status ≡ 2 → text ≡ words_text place
+  pub memory : status ≡ 5 → text ≡ memory_text
+  pub kept : SameFiles old new
+  pub count : now ≡ before
+  pub only : (status ≡ 2) ⊎ (status ≡ 5)
+
+-- What the program does with these words.
+abbrev pub Answer : Bool → Files → Files → ℕ → ℕ → List (List ℕ) → ℕ → List ℕ → Type 0
+Answer tells old new before now words status text =
+    ((place : ℕ) × (wrong_word words ≡ Some place) × WrongAnswer old new before now place status text)
+    ⊎ ((input output : List ℕ) × IsBodyCommand words input output × BodyAnswer tells old new before now input output status text)
+
+-- ---- completeness
+
+-- Where no fault is counted, what IN holds tells the status, unless memory runs out.
+abbrev pub Expected : Option (List ℕ) → ℕ → Type 0
+Expected None status = (status ≡ 3) ⊎ (status ≡ 5)
+Expected (Some bytes) status = ((status ≡ 0) × IsAccepted bytes) ⊎ ((status ≡ 1) × ((r : Refusal) × IsRefusal bytes r)) ⊎ (status ≡ 5)
+
+-- ---- the text
+
+abbrev pub HasRoom : Option ℕ → List ℕ → Type 0
+HasRoom None text = ⊥
+HasRoom (Some room) text = length text ≤ room
+
+-- The sink is given the text: the status stands, or where the sink fails it is 4 and some of the first bytes were taken.
+pub record Puts (tells : Bool) (old new : List ℕ) (before now : ℕ) (room : Option ℕ) (text : List ℕ) (status result : ℕ) : Type 0 where
+  pub whole : result ≢ 4 → (result ≡ status) × (IsTrue tells → new ≡ old ++ text)
+  pub cut : result ≡ 4 → Rose before now × (IsTrue tells → (k : ℕ) × (k ≤ length text) × (new ≡ old ++ take k text))
+  pub roomy : HasRoom room text → result ≡ status

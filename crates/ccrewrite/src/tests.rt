@@ -1,0 +1,212 @@
+// Whole commands over files and a sink in memory.
+
+use crate::program::run_words;
+use cil_base::{Bytes, U32s};
+use outside_core::{MemSink, MemStore, ReadRefusal, Store, StoreRefusal};
+use std::alloc::{AllocError, Global};
+use std::test::Fail;
+
+/// A body with one call of Requires, and its rewriting.
+const CHECKED: [u8; 14] = [
+    0x36, 0x02, 0x16, 0xFE, 0x02, 0x28, 0x01, 0x00, 0x00, 0x0A, 0x02, 0x17, 0x58, 0x2A,
+];
+
+const REWRITTEN: [u8; 20] = [
+    0x4E, 0x02, 0x16, 0xFE, 0x02, 0x3A, 0x06, 0x00, 0x00, 0x00, 0x16, 0x28, 0x02, 0x00, 0x00, 0x0A,
+    0x02, 0x17, 0x58, 0x2A,
+];
+
+fn words_from(alloc: Global, texts: &[&str]) -> Result<Vec<String>, AllocError> {
+    let mut words = Vec::new(alloc);
+    for text in texts {
+        words.push(String::from_str(alloc, text)?)?;
+    }
+    Ok(words)
+}
+
+fn listed(alloc: Global, call: Option<u32>) -> Result<U32s, AllocError> {
+    let mut calls = U32s::new(alloc);
+    if let Some(call) = call {
+        calls.push(call)?;
+    }
+    Ok(calls)
+}
+
+/// Runs `body in OUT` where `in` holds the bytes, and says whether this is the status, the text, and
+/// what OUT holds then.
+fn body_answers(
+    alloc: Global,
+    input: &[u8],
+    out_name: &str,
+    failing: (Option<u32>, Option<u32>),
+    want: (u8, &[u8], Option<&[u8]>),
+) -> Result<bool, AllocError> {
+    let mut store = MemStore::new(alloc, listed(alloc, failing.0)?);
+    store.put_file("in", input)?;
+    let mut out = MemSink::new(alloc, 100, listed(alloc, failing.1)?)?;
+    let words = words_from(alloc, &["body", "in", out_name])?;
+    let status = run_words(alloc, words.as_slice(), &mut store, &mut out);
+    Ok(status == want.0 && out.taken() == want.1 && store.file(out_name) == want.2)
+}
+
+#[test]
+fn a_call_becomes_a_check(rt: HostRuntime) -> Result<(), Fail> {
+    let alloc = rt.alloc();
+    let done = (
+        0,
+        b"body: 1 clauses\n".as_slice(),
+        Some(REWRITTEN.as_slice()),
+    );
+    let to_out = body_answers(alloc, &CHECKED, "out", (None, None), done)?;
+    assert!(rt; to_out);
+    let in_place = body_answers(alloc, &CHECKED, "in", (None, None), done)?;
+    assert!(rt; in_place);
+    Ok(())
+}
+
+#[test]
+fn a_body_without_a_call_is_written_as_it_was(rt: HostRuntime) -> Result<(), Fail> {
+    let bytes = [0x0E, 0x17, 0x16, 0x2A];
+    let done = (0, b"body: 0 clauses\n".as_slice(), Some(bytes.as_slice()));
+    let same = body_answers(rt.alloc(), &bytes, "out", (None, None), done)?;
+    assert!(rt; same);
+    Ok(())
+}
+
+#[test]
+fn sixty_three_bytes_get_a_fat_header(rt: HostRuntime) -> Result<(), Fail> {
+    let alloc = rt.alloc();
+    let mut input = Vec::from_slice(alloc, &[0xFE])?;
+    let mut output = Vec::from_slice(alloc, &[3, 0x30, 8, 0, 0x45, 0, 0, 0, 0, 0, 0, 0])?;
+    for _ in 0..55 {
+        input.push(0)?;
+        output.push(0)?;
+    }
+    input.extend_from_slice(&[0x17, 0x28, 1, 0, 0, 0x0A, 0x16, 0x2A])?;
+    output.extend_from_slice(&[
+        0x17, 0x3A, 6, 0, 0, 0, 0x16, 0x28, 2, 0, 0, 0x0A, 0x16, 0x2A,
+    ])?;
+    let done = (0, b"body: 1 clauses\n".as_slice(), Some(output.as_slice()));
+    let grown = body_answers(alloc, input.as_slice(), "out", (None, None), done)?;
+    assert!(rt; grown);
+    Ok(())
+}
+
+#[test]
+fn broken_bodies_are_refused(rt: HostRuntime) -> Result<(), Fail> {
+    let i5 = b"refused: I5 assembly 0 table 00 row 0 at 0\n".as_slice();
+    let i1 = b"refused: I1 assembly 0 table 00 row 0 at 0\n".as_slice();
+    let i2 = b"refused: I2 assembly 0 table 00 row 0 at 0\n".as_slice();
+    let i1_later = b"refused: I1 assembly 0 table 00 row 0 at 2\n".as_slice();
+    let c2 = b"refused: C2 assembly 0 table 00 row 0 at 0\n".as_slice();
+    let c2_later = b"refused: C2 assembly 0 table 00 row 0 at 2\n".as_slice();
+    let c1 = b"refused: C1 assembly 0 table 00 row 0 at 7\n".as_slice();
+    let cases: [(&[u8], &[u8]); 11] = [
+        (&[], i5),
+        // The header says four bytes and five follow, or three.
+        (&[0x12, 0x20, 5, 0, 0, 0x2A], i5),
+        (&[0x12, 0x17, 0x16, 0x2A], i5),
+        (&[0x03, 0x30], i5),
+        (&[0x06, 0x2B], i1),
+        (&[0x06, 0x1F], i2),
+        (&[0x0E, 0x00, 0x00, 0x2B], i1_later),
+        // A call of another member.
+        (&[0x16, 0x28, 2, 0, 0, 0x0A], i1),
+        (&[0x1A, 0x28, 1, 0, 0, 0x0A, 0x2A], c2),
+        // Two values, and a `ret` before the call.
+        (&[0x1E, 0x17, 0x17, 0x28, 1, 0, 0, 0x0A], c2_later),
+        (
+            &[
+                0x36, 0x17, 0x28, 1, 0, 0, 0x0A, 0x17, 0x28, 1, 0, 0, 0x0A, 0x2A,
+            ],
+            c1,
+        ),
+    ];
+    for (input, text) in cases {
+        let holds = body_answers(rt.alloc(), input, "out", (None, None), (1, text, None))?;
+        assert!(rt; holds, "at {input:?}");
+    }
+    Ok(())
+}
+
+#[test]
+fn failing_calls_are_told(rt: HostRuntime) -> Result<(), Fail> {
+    let alloc = rt.alloc();
+    let read = (3, b"store: in\n".as_slice(), None);
+    let read_fails = body_answers(alloc, &CHECKED, "out", (Some(0), None), read)?;
+    assert!(rt; read_fails);
+    let write = (3, b"store: out\n".as_slice(), None);
+    let write_fails = body_answers(alloc, &CHECKED, "out", (Some(1), None), write)?;
+    assert!(rt; write_fails);
+    let cut = (4, b"".as_slice(), Some(REWRITTEN.as_slice()));
+    let sink_fails = body_answers(alloc, &CHECKED, "out", (None, Some(0)), cut)?;
+    assert!(rt; sink_fails);
+    let both = (4, b"".as_slice(), None);
+    let both_fail = body_answers(alloc, &CHECKED, "out", (Some(1), Some(0)), both)?;
+    assert!(rt; both_fail);
+    Ok(())
+}
+
+/// Runs the words over no files, and says whether this is the status and the text.
+fn words_answer(alloc: Global, texts: &[&str], want: (u8, &[u8])) -> Result<bool, AllocError> {
+    let mut store = MemStore::new(alloc, U32s::new(alloc));
+    let mut out = MemSink::new(alloc, 100, U32s::new(alloc))?;
+    let words = words_from(alloc, texts)?;
+    let status = run_words(alloc, words.as_slice(), &mut store, &mut out);
+    Ok(status == want.0 && out.taken() == want.1)
+}
+
+#[test]
+fn wrong_words_and_missing_files(rt: HostRuntime) -> Result<(), Fail> {
+    let cases: [(&[&str], u8, &[u8]); 8] = [
+        (&[], 2, b"words: 0\n"),
+        (&["bodies", "in", "out"], 2, b"words: 0\n"),
+        (&["--help"], 2, b"words: 0\n"),
+        (&["body"], 2, b"words: 1\n"),
+        (&["body", "-in", "out"], 2, b"words: 1\n"),
+        (&["body", "in"], 2, b"words: 2\n"),
+        (&["body", "in", "out", "more"], 2, b"words: 3\n"),
+        (&["body", "in", "out"], 3, b"store: in\n"),
+    ];
+    for (texts, status, text) in cases {
+        let holds = words_answer(rt.alloc(), texts, (status, text))?;
+        assert!(rt; holds, "at {texts:?}");
+    }
+    Ok(())
+}
+
+/// A store whose files are all too long.
+#[derive(Drop)]
+struct LongStore;
+
+impl Store for LongStore {
+    ghost use Rattle.std.specs.Prelude.{false, None};
+
+    ghost tells = { λ s. false };
+
+    ghost file = { λ s name. None };
+
+    ghost faults = { λ s. 0 };
+
+    ghost steady = { λ s. false };
+
+    fn read_all(&mut self, _alloc: Global, _name: &str, _cap: u64) -> Result<Bytes, ReadRefusal> {
+        Err(ReadRefusal::TooLong)
+    }
+
+    fn replace(&mut self, _alloc: Global, _name: &str, _bytes: &[u8]) -> Result<(), StoreRefusal> {
+        Ok(())
+    }
+}
+
+#[test]
+fn long_files_are_refused(rt: HostRuntime) -> Result<(), Fail> {
+    let alloc = rt.alloc();
+    let mut out = MemSink::new(alloc, 100, U32s::new(alloc))?;
+    let words = words_from(alloc, &["body", "in", "out"])?;
+    let status = run_words(alloc, words.as_slice(), &mut LongStore, &mut out);
+    assert_eq!(rt; status, 1);
+    let text = b"refused: L1 assembly 0 table 00 row 0 at 67108865\n".as_slice();
+    assert!(rt; out.taken() == text);
+    Ok(())
+}

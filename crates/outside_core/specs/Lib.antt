@@ -1,0 +1,5 @@
+pub mod Store
+pub mod Sink
+pub mod Memory
+pub mod MemStores
+pub mod MemSinks
