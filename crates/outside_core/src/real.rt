@@ -86,6 +86,8 @@ impl<'r, R: Files> Store for FileStore<'r, R> {
         match put_beside(self.rt, beside.as_str(), name, bytes) {
             Ok(()) => Ok(()),
             Err(_) => {
+                // What was begun beside the file is of no use.
+                let _ = fs::remove_file(self.rt, beside.as_str());
                 self.faults = self.faults.saturating_add(1);
                 Err(StoreRefusal::Failed)
             }
