@@ -5,12 +5,14 @@ use Rattle.cil_base.specs.Causes.{Rose}
 use Rattle.cil_base.specs.declared.refusal.Refusal.{Refusal}
 use Rattle.cil_base.specs.Refusals.{First, NoneBroken, key, is_less}
 use Rattle.cil_base.proofs.RefusalLaws.{less_refl}
+use Rattle.cil_base.proofs.OrderLaws.{first_is_one, turn_is_one}
+use Rattle.cil_model.specs.SmallCode.{HeaderBreaks, CodeBreaks}
 use Rattle.outside_core.specs.Store.{Files, SameFiles}
 use Rattle.ccrewrite.specs.declared.program.Reply.{Reply}
 use Rattle.ccrewrite.specs.Text.{done_text, refusal_text, words_text, store_text, memory_text}
 use Rattle.ccrewrite.specs.Words.{wrong_word, IsBodyCommand}
 use Rattle.ccrewrite.specs.Replies.{Replied}
-use Rattle.ccrewrite.specs.Program.{IsRewriting, SizeBreaks, IsRefusal, IsBodyRefusal, KeepsBodyRules, IsAccepted, PutsFile, IsDone, IsRefused, StoreFailed, FromBytes, BodyAnswer, WrongAnswer, Answer, Puts, Expected, size_limit, too_long}
+use Rattle.ccrewrite.specs.Program.{IsRewriting, SizeBreaks, IsRefusal, IsBodyRefusal, KeepsBodyRules, IsAccepted, PutsFile, IsDone, IsRefused, StoreFailed, FromBytes, BodyAnswer, WrongAnswer, Answer, Puts, Expected, ContractBreaks, body_place, size_limit, too_long}
 
 -- What is known of a reply, and of want of memory.
 pub replied_by : (P : ℕ → List ℕ → Type 0) (result : Result Reply AllocError) → IfOk result (λ a. P a.status (string_bytes a.text)) → P 5 memory_text → Replied P result
@@ -59,6 +61,13 @@ too_long_refused bytes h = inl (record {
   none_before = λ s x. subst (λ t. is_less (key t) (key too_long) ≡ false) (sym x.1) (less_refl (key too_long));
 })
 
+-- A file is refused by one refusal.
+one_refusal : (bytes : List ℕ) (r s : Refusal) → IsRefusal bytes r → IsRefusal bytes s → s ≡ r
+one_refusal bytes r s h k =
+    turn_is_one (SizeBreaks bytes) (IsBodyRefusal bytes) r s (λ h k.
+    turn_is_one (HeaderBreaks body_place bytes) _ r s (λ h k.
+    turn_is_one (CodeBreaks body_place bytes) (First (ContractBreaks bytes)) r s (λ h k. first_is_one (ContractBreaks bytes) r s h k) h k) h k) h k
+
 -- ---- from the read
 
 -- The store told what IN holds, and its files and count are as they were.
@@ -80,7 +89,7 @@ from_read tells tells' old mid new before middle now input bytes output status t
       );
   refused = λ z.
       let d = f.refused z in
-      (d.0 ∙ m, λ tt'. record { from = bytes; refusal = d.1.0; in_file = told tt'; breaks = d.1.1; prints = d.1.2 });
+      (d.0 ∙ m, λ tt'. record { from = bytes; refusal = d.1.0; in_file = told tt'; breaks = d.1.1; only = λ s h. one_refusal bytes d.1.0 s d.1.1 h; prints = d.1.2 });
   failed = λ z.
       let d = f.failed z in
       record { name = output; named = inr refl; cause = inl (subst (λ n. Rose n now) m d.0); prints = d.1 };
@@ -92,7 +101,7 @@ from_read tells tells' old mid new before middle now input bytes output status t
 pub read_refused : (tells : Bool) (old new : Files) (before now : ℕ) (input output : List ℕ) (status : ℕ) (text : List ℕ) → now ≡ before → SameFiles old new → (IsTrue tells → (bytes : List ℕ) × (old input ≡ Some bytes) × (size_limit < length bytes)) → (status ≡ 1) × (text ≡ refusal_text too_long) → BodyAnswer tells old new before now input output status text
 read_refused tells old new before now input output status text same files told e = record {
   done = λ z. let c : 1 ≡ 0 = sym e.0 ∙ z in absurd cc;
-  refused = λ z. (same, λ t. let x = told t in record { from = x.0; refusal = too_long; in_file = x.1; breaks = too_long_refused x.0 x.2; prints = e.1 });
+  refused = λ z. (same, λ t. let x = told t in record { from = x.0; refusal = too_long; in_file = x.1; breaks = too_long_refused x.0 x.2; only = λ s h. one_refusal x.0 too_long s (too_long_refused x.0 x.2) h; prints = e.1 });
   failed = λ z. let c : 1 ≡ 3 = sym e.0 ∙ z in absurd cc;
   memory = λ z. let c : 1 ≡ 5 = sym e.0 ∙ z in absurd cc;
   kept = λ n t. files;

@@ -78,12 +78,13 @@ pub record IsDone (old new : Files) (text input output : List ℕ) : Type 0 wher
   pub accepted : IsAccepted from
   pub prints : text ≡ done_text clauses
 
--- IN breaks a rule, and this is the refusal.
+-- IN breaks a rule, and this is the refusal, the only one.
 pub record IsRefused (old : Files) (text input : List ℕ) : Type 0 where
   pub from : List ℕ
   pub refusal : Refusal
   pub in_file : old input ≡ Some from
   pub breaks : IsRefusal from refusal
+  pub only : (other : Refusal) → IsRefusal from other → other ≡ refusal
   pub prints : text ≡ refusal_text refusal
 
 -- A file of the words can't be read or written: the count rose, or IN is missing.

@@ -12,7 +12,7 @@ or_false true q h = absurd cc
 or_false false q h = (refl, h)
 
 -- at the head: it is not less, and where it is equal the tails decide
-head_of : (x y : ℕ) (xs ys : List ℕ) → is_less (x ∷ xs) (y ∷ ys) ≡ false → (y ≤ x) × (x ≡ y → is_less xs ys ≡ false)
+pub head_of : (x y : ℕ) (xs ys : List ℕ) → is_less (x ∷ xs) (y ∷ ys) ≡ false → (y ≤ x) × (x ≡ y → is_less xs ys ≡ false)
 head_of x y xs ys h =
     let p = or_false (ltb x y) (eqb x y && is_less xs ys) h in
     (ltb-false x y p.0, λ same. sym (ap (λ (b : Bool). b && is_less xs ys) (same_test x y same)) ∙ p.1)

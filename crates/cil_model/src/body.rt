@@ -108,3 +108,35 @@ impl Instr {
         })
     }
 }
+
+#[cfg(test)]
+mod tests {
+    use super::*;
+    use crate::ty::{Ty, Tys};
+    use sqlite_items::Boxed;
+    use std::test::Fail;
+
+    #[test]
+    fn copies_have_the_same_parts(rt: HostRuntime) -> Result<(), Fail> {
+        let alloc = rt.alloc();
+        let mut type_args = Tys::new(alloc);
+        type_args.push(Ty::Array(Boxed::new(alloc, Ty::Prim(8))?))?;
+        let instr = Instr {
+            op: 0x45,
+            operand: Operand::Targets(U32s::from_slice(alloc, &[3, 1])?),
+            constrained: None,
+            prefixes: 1,
+            under: Some(Under {
+                type_args,
+                method_args: Tys::new(alloc),
+            }),
+        };
+        let copy = instr.copied(alloc)?;
+        let targets =
+            matches!(&copy.operand, Operand::Targets(ks) if ks.as_slice() == [3, 1].as_slice());
+        assert!(rt; targets);
+        let args = matches!(&copy.under, Some(under) if under.type_args.len() == 1);
+        assert!(rt; args);
+        Ok(())
+    }
+}

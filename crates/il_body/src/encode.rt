@@ -197,3 +197,34 @@ pub fn encode_body(alloc: Global, body: &Body) -> Result<Bytes, Fault>
     bytes.append(code)?;
     Ok(bytes)
 }
+
+#[cfg(test)]
+mod tests {
+    use super::*;
+    use crate::small::decode_small;
+    use cil_base::Place;
+    use std::test::Fail;
+
+    #[test]
+    fn what_is_read_is_written(rt: HostRuntime) -> Result<(), Fail> {
+        let alloc = rt.alloc();
+        let place = Place {
+            assembly: 0,
+            table: 0,
+            row: 0,
+        };
+        // Each instruction but a call's long spelling, in its shortest one.
+        let bytes = [
+            0x5A, 0x00, 0x02, 0x05, 0x15, 0x1E, 0x1F, 0x80, 0x20, 0x00, 0x01, 0x00, 0x00, 0x25,
+            0x26, 0x58, 0x59, 0x5A, 0xFE, 0x01, 0xFE, 0x04, 0x2A,
+        ];
+        match decode_small(alloc, &bytes, place) {
+            Ok(body) => match encode_body(alloc, &body) {
+                Ok(written) => assert!(rt; written.as_slice() == bytes.as_slice()),
+                Err(_) => assert!(rt; false, "not written"),
+            },
+            Err(_) => assert!(rt; false, "not read"),
+        }
+        Ok(())
+    }
+}

@@ -208,3 +208,39 @@ impl Sink for MemSink {
         Ok(())
     }
 }
+
+#[cfg(test)]
+mod tests {
+    use super::*;
+    use std::test::Fail;
+
+    #[test]
+    fn listed_calls_fail(rt: HostRuntime) -> Result<(), Fail> {
+        let alloc = rt.alloc();
+        let mut failing = U32s::new(alloc);
+        failing.push(1)?;
+        let mut store = MemStore::new(alloc, failing);
+        store.put_file("a", b"one")?;
+        let read =
+            matches!(store.read_all(alloc, "a", 3), Ok(bytes) if bytes.as_slice() == b"one".as_slice());
+        assert!(rt; read);
+        let failed = matches!(store.replace(alloc, "a", b"two"), Err(StoreRefusal::Failed));
+        assert!(rt; failed);
+        assert!(rt; store.file("a") == Some(b"one".as_slice()));
+        assert!(rt; store.replace(alloc, "a", b"two").is_ok());
+        assert!(rt; store.file("a") == Some(b"two".as_slice()));
+        let missing = matches!(store.read_all(alloc, "b", 3), Err(ReadRefusal::Failed));
+        assert!(rt; missing);
+        Ok(())
+    }
+
+    #[test]
+    fn a_put_past_the_room_takes_what_fits(rt: HostRuntime) -> Result<(), Fail> {
+        let alloc = rt.alloc();
+        let mut out = MemSink::new(alloc, 5, U32s::new(alloc))?;
+        assert!(rt; out.put(b"abc").is_ok());
+        assert!(rt; out.put(b"def").is_err());
+        assert!(rt; out.taken() == b"abcde".as_slice());
+        Ok(())
+    }
+}

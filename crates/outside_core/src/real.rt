@@ -126,3 +126,40 @@ impl<'r, R: Print> Sink for OutSink<'r, R> {
         }
     }
 }
+
+#[cfg(test)]
+mod tests {
+    use super::*;
+    use std::test::Fail;
+
+    #[test]
+    fn files_are_replaced_and_read(rt: HostRuntime) -> Result<(), Fail> {
+        let alloc = rt.alloc();
+        let mut store = FileStore::new(&rt);
+        assert!(rt; store.replace(alloc, "a.dll", b"old bytes").is_ok());
+        assert!(rt; store.replace(alloc, "a.dll", b"bytes").is_ok());
+        match store.read_all(alloc, "a.dll", 5) {
+            Ok(bytes) => assert!(rt; bytes.as_slice() == b"bytes".as_slice()),
+            Err(_) => assert!(rt; false, "not read"),
+        }
+        let long = matches!(store.read_all(alloc, "a.dll", 4), Err(ReadRefusal::TooLong));
+        assert!(rt; long);
+        assert_eq!(rt; store.faults, 0);
+        let missing = matches!(store.read_all(alloc, "b.dll", 5), Err(ReadRefusal::Failed));
+        assert!(rt; missing);
+        let no_folder = matches!(
+            store.replace(alloc, "c/d.dll", b""),
+            Err(StoreRefusal::Failed)
+        );
+        assert!(rt; no_folder);
+        assert_eq!(rt; store.faults, 2);
+        Ok(())
+    }
+
+    #[test]
+    fn text_is_put(rt: HostRuntime) {
+        let mut out = OutSink::new(&rt);
+        assert!(rt; out.put(b"text\n").is_ok());
+        assert_eq!(rt; out.faults, 0);
+    }
+}
