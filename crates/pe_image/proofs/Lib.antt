@@ -1,1 +1,2 @@
 pub mod SectionLaws
+pub mod RuleLaws

@@ -1,13 +1,13 @@
 -- One section header of the table after another.
-use Rattle.std.proofs.Common.{◌≡◌, ℕ, zero, suc, ◌+◌, ◌-◌, ◌*◌, ◌<◌, ◌≤◌, Bool, true, false, cond, not, leb, List, [], ◌∷◌, ◌++◌, length, Option, Some, None, refl, sym, ap, ◌∙◌, arith}
+use Rattle.std.proofs.Common.{◌≡◌, ℕ, zero, suc, ◌+◌, ◌-◌, ◌*◌, ◌<◌, ◌≤◌, Bool, true, false, cond, not, leb, ltb, ◌||◌, ◌&&◌, List, [], ◌∷◌, ◌++◌, length, Option, Some, None, refl, sym, ap, ◌∙◌, arith}
 use Rattle.std.specs.Prelude.{find, nat_lt, is_none}
 use Rattle.std.proofs.lemmas.Bool.{leb-true, leb-false, le-leb, lt-leb, lt-ltb, le-ltb}
-use Rattle.cil_base.specs.declared.refusal.Refusal.{Refusal}
+use Rattle.std.proofs.lemmas.Option.{same_Some}
 use Rattle.cil_base.specs.declared.rule.Rule.TheVariants.{P3}
 use Rattle.cil_base.specs.Refusals.{refusal, Test, first_of}
 use Rattle.pe_image.specs.declared.section.Section.{Section}
 use Rattle.pe_image.specs.Headers.{reaches}
-use Rattle.pe_image.specs.Sections.{section_at, sections_at, address_end, raw_end}
+use Rattle.pe_image.specs.Sections.{section_at, sections_at, address_end, raw_end, holds}
 use Rattle.pe_image.specs.declared.fields.Field.{Field}
 use Rattle.pe_image.specs.Rules.{test, field, cut, section_tests, section_fields, cuts, is_misplaced}
 
@@ -86,3 +86,53 @@ floor_kept s t floor end same empty e =
 
 pub floors : (bytes : List ℕ) (a f1 f2 g1 g2 at n : ℕ) → f1 ≡ f2 → g1 ≡ g2 → first_of (section_tests bytes a f1 g1 at n) ≡ first_of (section_tests bytes a f2 g2 at n)
 floors bytes a f1 f2 g1 g2 at n e h = rw (e, h) refl
+
+-- ---- a section that is found in a table in order
+
+pub holds_true : (rva len : ℕ) (s : Section) → holds rva len s ≡ true → (s.address ≤ rva) × (rva + len ≤ s.address + s.raw_size)
+holds_true rva len s e = go (leb s.address rva) (leb (rva + len) (s.address + s.raw_size)) e (leb-true s.address rva) (leb-true (rva + len) (s.address + s.raw_size))
+  where
+    go : (p q : Bool) → (p && q) ≡ true → (p ≡ true → s.address ≤ rva) → (q ≡ true → rva + len ≤ s.address + s.raw_size) → (s.address ≤ rva) × (rva + len ≤ s.address + s.raw_size)
+    go true true e f g = (f refl, g refl)
+    go true false e f g = absurd cc
+    go false q e f g = absurd cc
+
+-- the test that a section meets, and that its raw bytes are in the file
+pub record Found (p : Section → Bool) (bytes : List ℕ) (s : Section) : Type 0 where
+  pub meets : p s ≡ true
+  pub within : 0 < s.raw_size → raw_end s ≤ length bytes
+
+misplaced_not : (bytes : List ℕ) (f g : ℕ) (s : Section) → is_misplaced bytes f g s ≡ false → 0 < s.raw_size → raw_end s ≤ length bytes
+misplaced_not bytes f g s e some = go (ltb s.address f) (ltb 0 s.raw_size) (ltb s.raw_at g) (leb (raw_end s) (length bytes)) e (lt-ltb 0 s.raw_size some) (leb-true (raw_end s) (length bytes))
+  where
+    go : (p q r t : Bool) → (p || (q && (r || not t))) ≡ false → q ≡ true → (t ≡ true → raw_end s ≤ length bytes) → raw_end s ≤ length bytes
+    go p q r true e h k = k refl
+    go true q r false e h k = absurd cc
+    go false false r false e h k = absurd cc
+    go false true true false e h k = absurd cc
+    go false true false false e h k = absurd cc
+
+none_after : (bytes : List ℕ) (a f g at n : ℕ) → first_of (section_tests bytes a f g at (suc n)) ≡ None → (is_misplaced bytes f g (section_at bytes at) ≡ false) × (first_of (section_tests bytes a (address_end (section_at bytes at)) (cond (nat_lt 0 (section_at bytes at).raw_size) (raw_end (section_at bytes at)) g) (at + 40) n) ≡ None)
+none_after bytes a f g at n e = go (leb (at + 40) (length bytes)) refl
+  where
+    go : (b : Bool) → leb (at + 40) (length bytes) ≡ b → (is_misplaced bytes f g (section_at bytes at) ≡ false) × (first_of (section_tests bytes a (address_end (section_at bytes at)) (cond (nat_lt 0 (section_at bytes at).raw_size) (raw_end (section_at bytes at)) g) (at + 40) n) ≡ None)
+    go false t = let x = rw t at e in absurd (omega (arith, header_there bytes a at x, leb-false (at + 40) (length bytes) t))
+    go true t = let x = rw t at e in none_of (test P3 a at (is_misplaced bytes f g (section_at bytes at))) (section_tests bytes a (address_end (section_at bytes at)) (cond (nat_lt 0 (section_at bytes at).raw_size) (raw_end (section_at bytes at)) g) (at + 40) n) x
+
+pub found_in : (p : Section → Bool) (bytes : List ℕ) (a address_floor raw_floor at n : ℕ) (s : Section) → first_of (section_tests bytes a address_floor raw_floor at n) ≡ None → find p (sections_at bytes at n) ≡ Some s → Found p bytes s
+found_in p bytes a f g at zero s e h = absurd cc
+found_in p bytes a f g at (suc n) s e h =
+    let q = none_after bytes a f g at n e in
+    go (found_in p bytes a (address_end (section_at bytes at)) (cond (nat_lt 0 (section_at bytes at).raw_size) (raw_end (section_at bytes at)) g) (at + 40) n s q.1) (misplaced_not bytes f g (section_at bytes at) q.0) (p (section_at bytes at)) refl
+  where
+    go : (find p (sections_at bytes (at + 40) n) ≡ Some s → Found p bytes s) → (0 < (section_at bytes at).raw_size → raw_end (section_at bytes at) ≤ length bytes) → (m : Bool) → p (section_at bytes at) ≡ m → Found p bytes s
+    go ih within false t = ih (rw t at h)
+    go ih within true t =
+        let same : section_at bytes at ≡ s = same_Some (section_at bytes at) s (rw t at h) in
+        rw (← same) (record { meets = t; within = within })
+
+pub found_cli : (bytes : List ℕ) (a f g at n rva : ℕ) (s : Section) → first_of (section_tests bytes a f g at n) ≡ None → find (holds rva 72) (sections_at bytes at n) ≡ Some s → raw_end s ≤ length bytes
+found_cli bytes a f g at n rva s e h =
+    let found = found_in (holds rva 72) bytes a f g at n s e h in
+    let both = holds_true rva 72 s found.meets in
+    found.within (omega (arith, both.0, both.1))

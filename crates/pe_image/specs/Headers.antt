@@ -1,5 +1,5 @@
 -- The headers of an image (ECMA-335, II.25.2). All fields are numbers at places of the file.
-use Rattle.std.specs.Prelude.{ℕ, ◌+◌, ◌*◌, ◌%◌, Bool, ◌&&◌, ◌||◌, ◌==◌, nat_le, List, length, if◌then◌else◌}
+use Rattle.std.specs.Prelude.{ℕ, ◌+◌, ◌*◌, ◌^◌, ◌<◌, ◌≤◌, Bool, ◌==◌, nat_le, List, length, if◌then◌else◌}
 use Rattle.cil_base.specs.Numbers.{num}
 use Rattle.pe_image.specs.declared.headers.Headers.{Headers}
 
@@ -44,3 +44,10 @@ cli_rva bytes h = num bytes (h.directories + 112) 4
 -- where the section table ends
 abbrev pub table_end : Headers → ℕ
 table_end h = h.sections + 40 * h.count
+
+-- The parts stand in order, and below 2 ^ 33.
+pub record Fit (h : Headers) : Type 0 where
+  pub near : h.pe + 120 ≤ h.directories
+  pub far : h.directories + 120 ≤ h.sections
+  pub small : h.sections < 2 ^ 33
+  pub few : h.count < 2 ^ 16

@@ -1,11 +1,12 @@
 // The headers of an image, and the rules on them (ECMA-335, II.25.2).
-ghost use Rattle.std.specs.Prelude.{◌≡◌, ◌+◌, ◌*◌, ◌<◌, ◌≤◌, ◌^◌, length, IfOk, OnOk, None};
+ghost use Rattle.std.specs.Prelude.{◌≡◌, ◌+◌, ◌*◌, ◌<◌, ◌≤◌, ◌^◌, length, IfOk, OnOk, Some, None};
 ghost use Rattle.cil_base.specs.Refusals.{first_of};
-ghost use Rattle.pe_image.specs.Headers.{pe_of, headers_at, table_end};
+ghost use Rattle.pe_image.specs.Headers.{Fit, pe_of, headers_at, headers_of, cli_rva, table_end};
+ghost use Rattle.pe_image.specs.Sections.{section_of, raw_end};
 ghost use Rattle.pe_image.specs.Rules.{header_tests, coff_tests, optional_tests, directory_tests, goes_on, is_file_alignment};
 
 use crate::fields::{Field, first_cut, refusal_at};
-use crate::section::{find_section, section_fault};
+use crate::section::{Section, find_section, section_fault};
 use cil_base::{Refusal, Rule, read_u16_at, read_u32_at};
 
 const MZ: u16 = 0x5A4D;
@@ -81,7 +82,7 @@ pub fn coff(bytes: &[u8], assembly: u32, pe: usize) -> Result<Headers, Refusal>
     ensures tests { first_of (coff_tests bytes.now assembly pe) ≡ goes_on result (first_of (optional_tests bytes.now assembly (headers_at bytes.now pe))) }
     ensures headers { IfOk result (λ h. h ≡ headers_at bytes.now pe) }
     ensures within { IfOk result (λ h. pe + 26 ≤ length bytes.now) }
-    ensures far { IfOk result (λ h. h.directories + 120 ≤ h.sections) }
+    ensures fit { IfOk result (λ h. Fit h) }
 {
     if bytes.len() < pe + 26 {
         return Err(first_cut(bytes, assembly, pe, &COFF_FIELDS).unwrap());
@@ -134,14 +135,14 @@ pub fn test_alignments(bytes: &[u8], assembly: u32, headers: &Headers) -> Result
 }
 
 /// Tests that the directories are there, that a section has the CLI header, and the section table.
-pub fn test_directories(bytes: &[u8], assembly: u32, headers: &Headers) -> Result<(), Refusal>
+/// Gives the section with the CLI header.
+pub fn cli_section(bytes: &[u8], assembly: u32, headers: &Headers) -> Result<Section, Refusal>
     requires short { length bytes.now < 2 ^ 32 }
     requires place { headers.now.pe + 26 ≤ length bytes.now }
-    requires near { headers.now.pe + 120 ≤ headers.now.directories }
-    requires far { headers.now.directories < 2 ^ 33 }
-    requires sections { headers.now.sections < 2 ^ 33 }
-    requires count { headers.now.count < 2 ^ 16 }
+    requires fit { Fit headers.now }
     ensures tests { first_of (directory_tests bytes.now assembly headers.now) ≡ goes_on result None }
+    ensures section { IfOk result (λ s. section_of bytes.now headers.now (cli_rva bytes.now headers.now) 72 ≡ Some s) }
+    ensures within { IfOk result (λ s. raw_end s ≤ length bytes.now) }
     ensures whole { OnOk result (table_end headers.now ≤ length bytes.now) }
 {
     let Headers {
@@ -156,18 +157,33 @@ pub fn test_directories(bytes: &[u8], assembly: u32, headers: &Headers) -> Resul
         }
         return Err(first_cut(bytes, assembly, directories, &DIRECTORY_FIELDS).unwrap());
     }
-    let cli_rva = read_u32_at(bytes, directories + 112).unwrap();
-    if count == 0 {
-        return Err(refusal_at(Rule::P4, assembly, directories + 112));
-    }
-    if bytes.len() >= sections + 40 * count
-        && find_section(bytes, headers, cli_rva, 72).is_none()
-    {
-        return Err(refusal_at(Rule::P4, assembly, directories + 112));
-    }
     let size = read_u32_at(bytes, pe + 84).unwrap();
+    let rva = read_u32_at(bytes, directories + 112).unwrap();
+    if count > 0 && bytes.len() < sections + 40 * count {
+        return Err(section_fault(bytes, assembly, headers, size).unwrap());
+    }
+    let Some(section) = find_section(bytes, headers, rva, 72) else {
+        return Err(refusal_at(Rule::P4, assembly, directories + 112));
+    };
     match section_fault(bytes, assembly, headers, size) {
         Some(refusal) => Err(refusal),
-        None => Ok(()),
+        None => Ok(section),
     }
+}
+
+/// Tests the headers. Gives where they stand, and the section with the CLI header.
+pub fn read_headers(bytes: &[u8], assembly: u32) -> Result<(Headers, Section), Refusal>
+    requires { length bytes.now < 2 ^ 32 }
+    ensures tests { first_of (header_tests bytes.now assembly) ≡ goes_on result None }
+    ensures headers { IfOk result (λ p. p.0 ≡ headers_of bytes.now) }
+    ensures fit { IfOk result (λ p. Fit p.0) }
+    ensures section { IfOk result (λ p. section_of bytes.now p.0 (cli_rva bytes.now p.0) 72 ≡ Some p.1) }
+    ensures within { IfOk result (λ p. raw_end p.1 ≤ length bytes.now) }
+    ensures whole { IfOk result (λ p. table_end p.0 ≤ length bytes.now) }
+{
+    let pe = pe_place(bytes, assembly)?;
+    let headers = coff(bytes, assembly, pe)?;
+    test_alignments(bytes, assembly, &headers)?;
+    let section = cli_section(bytes, assembly, &headers)?;
+    Ok((headers, section))
 }
