@@ -9,7 +9,8 @@ use Rattle.cil_base.proofs.RefusalLaws.{Rises, not_less, first_is_first}
 use Rattle.pe_image.specs.declared.headers.Headers.{Headers}
 use Rattle.pe_image.specs.Headers.{reaches, pe_of, is_plus, headers_at, headers_of, headers_size}
 use Rattle.pe_image.specs.Sections.{section_at, address_end, raw_end}
-use Rattle.pe_image.specs.Rules.{field, cuts, section_fields, size_fields, directory_fields, section_tests, directory_tests, optional_tests, coff_tests, pe_tests, header_tests, cli_tests, has_pe, is_magic, is_short, cli_place, Broken}
+use Rattle.pe_image.specs.Rules.{field, cuts, section_fields, size_fields, directory_fields, section_tests, directory_tests, optional_tests, coff_tests, pe_tests, header_tests, cli_tests, has_pe, is_magic, is_short, Broken}
+use Rattle.pe_image.specs.Cli.{cli_place}
 
 abbrev place_key : ℕ → ℕ → ℕ → List ℕ
 place_key a at rule = a ∷ 0 ∷ 0 ∷ at ∷ rule ∷ []
@@ -36,9 +37,10 @@ sections_rise bytes a address_floor raw_floor at zero y m short below small rule
 sections_rise bytes a address_floor raw_floor at (suc n) y m short below small rule =
     either (leb (at + 40) (length bytes)) (place_key a y m) _ _
     (λ t.
-        let reach : at + 40 ≤ length bytes = leb-true (at + 40) (length bytes) t in
-        (step a at y 2 m (omega arith) (λ same. absurd (omega arith)),
-         sections_rise bytes a (address_end (section_at bytes at)) (cond (nat_lt 0 (section_at bytes at).raw_size) (raw_end (section_at bytes at)) raw_floor) (at + 40) n at 2 short (omega arith) (omega arith) (omega arith)))
+    let reach : at + 40 ≤ length bytes = leb-true (at + 40) (length bytes) t in (
+      step a at y 2 m (omega arith) (λ same. absurd (omega arith)),
+      sections_rise bytes a (address_end (section_at bytes at)) (cond (nat_lt 0 (section_at bytes at).raw_size) (raw_end (section_at bytes at)) raw_floor) (at + 40) n at 2 short (omega arith) (omega arith) (omega arith),
+    ))
     (λ f. section_cuts bytes a at y m below small rule)
 
 directories_rise : (bytes : List ℕ) (a : ℕ) (h : Headers) → length bytes < 2 ^ 32 → h.pe + 64 ≤ length bytes → h.pe + 120 ≤ h.directories → h.directories + 120 ≤ h.sections → Rises (place_key a (h.pe + 60) 2) (directory_tests bytes a h)
@@ -47,20 +49,28 @@ directories_rise bytes a h short here near far =
     let d = h.directories in
     either (leb (d + 120) (length bytes)) (place_key a (pe + 60) 2) _ _
     (λ t.
-        let reach : d + 120 ≤ length bytes = leb-true (d + 120) (length bytes) t in
-        (step a (d + 112) (pe + 60) 3 2 (omega arith) (λ e. omega arith),
-         sections_rise bytes a (headers_size bytes h) (headers_size bytes h) h.sections h.count (d + 112) 3 short (omega arith) (omega arith) (omega arith)))
-    (λ f.
-        (step a (shown (pe + 80)) (pe + 60) 5 2 (omega arith) (λ e. omega arith), (step a (shown (pe + 84)) (shown (pe + 80)) 5 5 (omega arith) (λ e. omega arith), (step a (shown (pe + 88)) (shown (pe + 84)) 5 5 (omega arith) (λ e. omega arith),
-        (step a (shown (d + 32)) (shown (pe + 88)) 5 5 (omega arith) (λ e. omega arith), (step a (shown (d + 36)) (shown (d + 32)) 5 5 (omega arith) (λ e. omega arith), (step a (shown (d + 48)) (shown (d + 36)) 5 5 (omega arith) (λ e. omega arith), (step a (shown (d + 52)) (shown (d + 48)) 5 5 (omega arith) (λ e. omega arith), (step a (shown (d + 112)) (shown (d + 52)) 5 5 (omega arith) (λ e. omega arith), (step a (shown (d + 116)) (shown (d + 112)) 5 5 (omega arith) (λ e. omega arith), tt))))))))))
+    let reach : d + 120 ≤ length bytes = leb-true (d + 120) (length bytes) t in (
+      step a (d + 112) (pe + 60) 3 2 (omega arith) (λ e. omega arith),
+      sections_rise bytes a (headers_size bytes h) (headers_size bytes h) h.sections h.count (d + 112) 3 short (omega arith) (omega arith) (omega arith),
+    ))
+    (λ f. (
+      step a (shown (pe + 80)) (pe + 60) 5 2 (omega arith) (λ e. omega arith),
+      (
+        step a (shown (pe + 84)) (shown (pe + 80)) 5 5 (omega arith) (λ e. omega arith),
+        (
+          step a (shown (pe + 88)) (shown (pe + 84)) 5 5 (omega arith) (λ e. omega arith),
+          (step a (shown (d + 32)) (shown (pe + 88)) 5 5 (omega arith) (λ e. omega arith), (step a (shown (d + 36)) (shown (d + 32)) 5 5 (omega arith) (λ e. omega arith), (step a (shown (d + 48)) (shown (d + 36)) 5 5 (omega arith) (λ e. omega arith), (step a (shown (d + 52)) (shown (d + 48)) 5 5 (omega arith) (λ e. omega arith), (step a (shown (d + 112)) (shown (d + 52)) 5 5 (omega arith) (λ e. omega arith), (step a (shown (d + 116)) (shown (d + 112)) 5 5 (omega arith) (λ e. omega arith), tt)))))),
+        ),
+      ),
+    ))
 
 optional_rise : (bytes : List ℕ) (a : ℕ) (h : Headers) → length bytes < 2 ^ 32 → h.pe + 26 ≤ length bytes → h.pe + 120 ≤ h.directories → h.directories + 120 ≤ h.sections → Rises (place_key a (h.pe + 24) 1) (optional_tests bytes a h)
 optional_rise bytes a h short here near far =
     let pe = h.pe in
     either (leb (pe + 64) (length bytes)) (place_key a (pe + 24) 1) _ _
     (λ t.
-        let reach : pe + 64 ≤ length bytes = leb-true (pe + 64) (length bytes) t in
-        (step a (pe + 56) (pe + 24) 2 1 (omega arith) (λ e. omega arith), (step a (pe + 60) (pe + 56) 2 2 (omega arith) (λ e. omega arith), directories_rise bytes a h short reach near far)))
+    let reach : pe + 64 ≤ length bytes = leb-true (pe + 64) (length bytes) t in
+    (step a (pe + 56) (pe + 24) 2 1 (omega arith) (λ e. omega arith), (step a (pe + 60) (pe + 56) 2 2 (omega arith) (λ e. omega arith), directories_rise bytes a h short reach near far)))
     (λ f. (step a (shown (pe + 56)) (pe + 24) 5 1 (omega arith) (λ e. omega arith), (step a (shown (pe + 60)) (shown (pe + 56)) 5 5 (omega arith) (λ e. omega arith), tt)))
 
 -- an optional header that is long enough has its directories before the section table
@@ -82,34 +92,42 @@ coff_rise bytes a pe short here =
     let magic = num bytes (pe + 24) 2 in
     either (leb (pe + 26) (length bytes)) (place_key a pe 0) _ _
     (λ t.
-        let reach : pe + 26 ≤ length bytes = leb-true (pe + 26) (length bytes) t in
-        (step a (pe + 20) pe 1 0 (omega arith) (λ e. omega arith), (step a (pe + 24) (pe + 20) 1 1 (omega arith) (λ e. omega arith),
-         either (is_magic magic && not (is_short magic size)) (place_key a (pe + 24) 1) _ _
-         (λ ok. optional_rise bytes a (headers_at bytes pe) short reach (near (is_plus magic)) (far (cond (is_plus magic) 112 96) size (long_enough magic size ok)))
-         (λ no. tt))))
+    let reach : pe + 26 ≤ length bytes = leb-true (pe + 26) (length bytes) t in (
+      step a (pe + 20) pe 1 0 (omega arith) (λ e. omega arith),
+      (
+        step a (pe + 24) (pe + 20) 1 1 (omega arith) (λ e. omega arith),
+        either (is_magic magic && not (is_short magic size)) (place_key a (pe + 24) 1) _ _
+            (λ ok. optional_rise bytes a (headers_at bytes pe) short reach (near (is_plus magic)) (far (cond (is_plus magic) 112 96) size (long_enough magic size ok)))
+            (λ no. tt),
+      ),
+    ))
     (λ f. (step a (shown (pe + 6)) pe 5 0 (omega arith) (λ e. omega arith), (step a (shown (pe + 20)) (shown (pe + 6)) 5 5 (omega arith) (λ e. omega arith), (step a (shown (pe + 24)) (shown (pe + 20)) 5 5 (omega arith) (λ e. omega arith), tt))))
   where
     near : (b : Bool) → pe + 120 ≤ pe + 24 + cond b 112 96
     near true = omega arith
     near false = omega arith
+
     far : (d size : ℕ) → d + 120 ≤ size → pe + 24 + d + 120 ≤ pe + 24 + size
     far d size le = omega arith
 
 headers_rise : (bytes : List ℕ) (a : ℕ) → length bytes < 2 ^ 32 → Rises [] (header_tests bytes a)
-headers_rise bytes a short =
-    (refl,
-     either (leb 64 (length bytes)) (place_key a 0 0) _ _
-     (λ t.
-         (step a 60 0 0 0 (omega arith) (λ e. omega arith),
-          either (leb 64 (pe_of bytes)) (place_key a 60 0) _ _
-          (λ far.
-              let after : 64 ≤ pe_of bytes = leb-true 64 (pe_of bytes) far in
-              (step a (pe_of bytes) 60 0 0 (omega arith) (λ e. omega arith),
-               either (has_pe bytes (pe_of bytes)) (place_key a (pe_of bytes) 0) _ _
-               (λ pe. coff_rise bytes a (pe_of bytes) short (leb-true (pe_of bytes + 4) (length bytes) (first (leb (pe_of bytes + 4) (length bytes)) _ pe)))
-               (λ no. tt)))
-          (λ near. tt)))
-     (λ f. (step a 60 0 5 0 (omega arith) (λ e. omega arith), tt)))
+headers_rise bytes a short = (
+  refl,
+  either (leb 64 (length bytes)) (place_key a 0 0) _ _
+      (λ t. (
+        step a 60 0 0 0 (omega arith) (λ e. omega arith),
+        either (leb 64 (pe_of bytes)) (place_key a 60 0) _ _
+            (λ far.
+            let after : 64 ≤ pe_of bytes = leb-true 64 (pe_of bytes) far in (
+              step a (pe_of bytes) 60 0 0 (omega arith) (λ e. omega arith),
+              either (has_pe bytes (pe_of bytes)) (place_key a (pe_of bytes) 0) _ _
+                  (λ pe. coff_rise bytes a (pe_of bytes) short (leb-true (pe_of bytes + 4) (length bytes) (first (leb (pe_of bytes + 4) (length bytes)) _ pe)))
+                  (λ no. tt),
+            ))
+            (λ near. tt),
+      ))
+      (λ f. (step a 60 0 5 0 (omega arith) (λ e. omega arith), tt)),
+)
   where
     first : (p q : Bool) → (p && q) ≡ true → p ≡ true
     first true q e = refl

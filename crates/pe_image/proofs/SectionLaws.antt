@@ -6,8 +6,9 @@ use Rattle.std.proofs.lemmas.Option.{same_Some}
 use Rattle.cil_base.specs.declared.rule.Rule.TheVariants.{P3}
 use Rattle.cil_base.specs.Refusals.{refusal, Test, first_of}
 use Rattle.pe_image.specs.declared.section.Section.{Section}
+use Rattle.pe_image.specs.declared.headers.Headers.{Headers}
 use Rattle.pe_image.specs.Headers.{reaches}
-use Rattle.pe_image.specs.Sections.{section_at, sections_at, address_end, raw_end, holds}
+use Rattle.pe_image.specs.Sections.{section_at, sections_at, sections_of, section_of, place_in, address_end, raw_end, holds}
 use Rattle.pe_image.specs.declared.fields.Field.{Field}
 use Rattle.pe_image.specs.Rules.{test, field, cut, section_tests, section_fields, cuts, is_misplaced}
 
@@ -136,3 +137,17 @@ found_cli bytes a f g at n rva s e h =
     let found = found_in (holds rva 72) bytes a f g at n s e h in
     let both = holds_true rva 72 s found.meets in
     found.within (omega (arith, both.0, both.1))
+
+-- what is found meets the test
+pub find_meets : (p : Section → Bool) (xs : List Section) (s : Section) → find p xs ≡ Some s → p s ≡ true
+find_meets p [] s e = absurd cc
+find_meets p (x ∷ xs) s e = go (find_meets p xs s) (p x) refl
+  where
+    go : (find p xs ≡ Some s → p s ≡ true) → (b : Bool) → p x ≡ b → p s ≡ true
+    go ih true t = let same : x ≡ s = same_Some x s (rw t at e) in rw (← same) t
+    go ih false t = ih (rw t at e)
+
+pub place_within : (bytes : List ℕ) (h : Headers) (rva len : ℕ) (s : Section) → section_of bytes h rva len ≡ Some s → raw_end s ≤ length bytes → place_in s rva + len ≤ length bytes
+place_within bytes h rva len s e within =
+    let both = holds_true rva len s (find_meets (holds rva len) (sections_of bytes h) s e) in
+    omega (arith, both.0, both.1)

@@ -1,5 +1,5 @@
 -- The rules on images (ECMA-335, II.25), each with its place. A field is tested where the fields that lead to it are in order.
-use Rattle.std.specs.Prelude.{◌≡◌, ◌⊎◌, ℕ, zero, suc, ◌+◌, Bool, not, ◌||◌, ◌&&◌, ◌==◌, nat_lt, nat_le, List, [], ◌∷◌, ◌++◌, map, Option, Some, Result, Ok, Err, is_some, option_map, unwrap_or, bit_and, if◌then◌else◌}
+use Rattle.std.specs.Prelude.{◌≡◌, ◌⊎◌, ℕ, zero, suc, ◌+◌, Bool, not, ◌||◌, ◌&&◌, ◌==◌, nat_lt, nat_le, List, [], ◌∷◌, ◌++◌, map, Option, Some, Result, Ok, Err, is_some, bit_and, if◌then◌else◌}
 use Rattle.std.specs.List.{list_any}
 use Rattle.cil_base.specs.declared.rule.Rule.{Rule}
 use Rattle.cil_base.specs.declared.rule.Rule.TheVariants.{P1, P2, P3, P4, P6}
@@ -10,7 +10,8 @@ use Rattle.pe_image.specs.declared.headers.Headers.{Headers}
 use Rattle.pe_image.specs.declared.fields.Field.{Field}
 use Rattle.pe_image.specs.declared.section.Section.{Section}
 use Rattle.pe_image.specs.Headers.{reaches, pe_of, is_plus, headers_at, headers_of, section_alignment, file_alignment, headers_size, cli_rva, table_end}
-use Rattle.pe_image.specs.Sections.{section_at, address_end, raw_end, section_of, place_in}
+use Rattle.pe_image.specs.Sections.{section_at, address_end, raw_end, section_of}
+use Rattle.pe_image.specs.Cli.{cli_place}
 
 -- a rule at a place of the file
 abbrev pub test : Rule → ℕ → ℕ → Bool → Test
@@ -46,8 +47,8 @@ section_tests bytes a address_floor raw_floor at zero = []
 section_tests bytes a address_floor raw_floor at (suc n) =
     if reaches bytes (at + 40)
     then test P3 a at (is_misplaced bytes address_floor raw_floor (section_at bytes at)) ∷
-         section_tests bytes a (address_end (section_at bytes at))
-           (if nat_lt 0 (section_at bytes at).raw_size then raw_end (section_at bytes at) else raw_floor) (at + 40) n
+    section_tests bytes a (address_end (section_at bytes at))
+    (if nat_lt 0 (section_at bytes at).raw_size then raw_end (section_at bytes at) else raw_floor) (at + 40) n
     else cuts bytes a at section_fields
 
 -- ---- the optional header
@@ -71,7 +72,7 @@ abbrev pub directory_tests : List ℕ → ℕ → Headers → List Test
 directory_tests bytes a h =
     if reaches bytes (h.directories + 120)
     then test P4 a (h.directories + 112) (has_no_cli bytes h) ∷
-         section_tests bytes a (headers_size bytes h) (headers_size bytes h) h.sections h.count
+    section_tests bytes a (headers_size bytes h) (headers_size bytes h) h.sections h.count
     else cuts bytes a h.pe size_fields ++ cuts bytes a h.directories directory_fields
 
 -- a power of two from 512 to 65,536
@@ -83,8 +84,8 @@ abbrev pub optional_tests : List ℕ → ℕ → Headers → List Test
 optional_tests bytes a h =
     if reaches bytes (h.pe + 64)
     then test P3 a (h.pe + 56) (nat_lt (section_alignment bytes h) (file_alignment bytes h)) ∷
-         test P3 a (h.pe + 60) (not (is_file_alignment (file_alignment bytes h))) ∷
-         directory_tests bytes a h
+    test P3 a (h.pe + 60) (not (is_file_alignment (file_alignment bytes h))) ∷
+    directory_tests bytes a h
     else cuts bytes a h.pe (field 56 4 ∷ field 60 4 ∷ [])
 
 -- ---- the COFF header and the signatures
@@ -100,10 +101,10 @@ abbrev pub coff_tests : List ℕ → ℕ → ℕ → List Test
 coff_tests bytes a pe =
     if reaches bytes (pe + 26)
     then test P2 a (pe + 20) (is_short (num bytes (pe + 24) 2) (num bytes (pe + 20) 2)) ∷
-         test P2 a (pe + 24) (not (is_magic (num bytes (pe + 24) 2))) ∷
-         (if is_magic (num bytes (pe + 24) 2) && not (is_short (num bytes (pe + 24) 2) (num bytes (pe + 20) 2))
-          then optional_tests bytes a (headers_at bytes pe)
-          else [])
+    test P2 a (pe + 24) (not (is_magic (num bytes (pe + 24) 2))) ∷
+    (if is_magic (num bytes (pe + 24) 2) && not (is_short (num bytes (pe + 24) 2) (num bytes (pe + 20) 2))
+    then optional_tests bytes a (headers_at bytes pe)
+    else [])
     else cuts bytes a pe (field 6 2 ∷ field 20 2 ∷ field 24 2 ∷ [])
 
 abbrev pub has_pe : List ℕ → ℕ → Bool
@@ -120,14 +121,10 @@ abbrev pub header_tests : List ℕ → ℕ → List Test
 header_tests bytes a =
     test P1 a 0 (not (has_mz bytes)) ∷
     (if reaches bytes 64
-     then test P1 a 60 (nat_lt (pe_of bytes) 64) ∷ (if nat_le 64 (pe_of bytes) then pe_tests bytes a (pe_of bytes) else [])
-     else cut bytes a 60 4 ∷ [])
+    then test P1 a 60 (nat_lt (pe_of bytes) 64) ∷ (if nat_le 64 (pe_of bytes) then pe_tests bytes a (pe_of bytes) else [])
+    else cut bytes a 60 4 ∷ [])
 
 -- ---- P4: the CLI header, II.25.3.3
-
--- where the CLI header stands in the file
-abbrev pub cli_place : List ℕ → Headers → ℕ
-cli_place bytes h = unwrap_or (option_map (λ s. place_in s (cli_rva bytes h)) (section_of bytes h (cli_rva bytes h) 72)) 0
 
 -- ILONLY is set, and the native entry point is not
 abbrev pub is_il_only : ℕ → Bool

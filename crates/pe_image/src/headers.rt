@@ -10,8 +10,11 @@ use crate::section::{Section, find_section, section_fault};
 use cil_base::{Refusal, Rule, read_u16_at, read_u32_at};
 
 const MZ: u16 = 0x5A4D;
+
 const PE: u32 = 0x4550;
+
 const PE32: u16 = 0x10B;
+
 const PE32_PLUS: u16 = 0x20B;
 
 /// Where the parts of the headers stand in the file.
@@ -50,29 +53,71 @@ pub fn pe_place(bytes: &[u8], assembly: u32) -> Result<usize, Refusal>
 }
 
 static COFF_FIELDS: [Field; 3] = [
-    Field { offset: 6, width: 2 },
-    Field { offset: 20, width: 2 },
-    Field { offset: 24, width: 2 },
+    Field {
+        offset: 6,
+        width: 2,
+    },
+    Field {
+        offset: 20,
+        width: 2,
+    },
+    Field {
+        offset: 24,
+        width: 2,
+    },
 ];
 
 static ALIGNMENT_FIELDS: [Field; 2] = [
-    Field { offset: 56, width: 4 },
-    Field { offset: 60, width: 4 },
+    Field {
+        offset: 56,
+        width: 4,
+    },
+    Field {
+        offset: 60,
+        width: 4,
+    },
 ];
 
 static SIZE_FIELDS: [Field; 3] = [
-    Field { offset: 80, width: 4 },
-    Field { offset: 84, width: 4 },
-    Field { offset: 88, width: 4 },
+    Field {
+        offset: 80,
+        width: 4,
+    },
+    Field {
+        offset: 84,
+        width: 4,
+    },
+    Field {
+        offset: 88,
+        width: 4,
+    },
 ];
 
 static DIRECTORY_FIELDS: [Field; 6] = [
-    Field { offset: 32, width: 4 },
-    Field { offset: 36, width: 4 },
-    Field { offset: 48, width: 4 },
-    Field { offset: 52, width: 4 },
-    Field { offset: 112, width: 4 },
-    Field { offset: 116, width: 4 },
+    Field {
+        offset: 32,
+        width: 4,
+    },
+    Field {
+        offset: 36,
+        width: 4,
+    },
+    Field {
+        offset: 48,
+        width: 4,
+    },
+    Field {
+        offset: 52,
+        width: 4,
+    },
+    Field {
+        offset: 112,
+        width: 4,
+    },
+    Field {
+        offset: 116,
+        width: 4,
+    },
 ];
 
 /// Where the parts of the headers stand, by the COFF header behind the signature at `pe`.
@@ -158,7 +203,7 @@ pub fn cli_section(bytes: &[u8], assembly: u32, headers: &Headers) -> Result<Sec
         return Err(first_cut(bytes, assembly, directories, &DIRECTORY_FIELDS).unwrap());
     }
     let size = read_u32_at(bytes, pe + 84).unwrap();
-    let rva = read_u32_at(bytes, directories + 112).unwrap();
+    let rva = cli_rva(bytes, headers);
     if count > 0 && bytes.len() < sections + 40 * count {
         return Err(section_fault(bytes, assembly, headers, size).unwrap());
     }
@@ -169,6 +214,14 @@ pub fn cli_section(bytes: &[u8], assembly: u32, headers: &Headers) -> Result<Sec
         Some(refusal) => Err(refusal),
         None => Ok(section),
     }
+}
+
+/// The RVA of the CLI header.
+pub fn cli_rva(bytes: &[u8], headers: &Headers) -> u32
+    requires { headers.now.directories + 116 ≤ length bytes.now }
+    ensures { result ≡ cli_rva bytes.now headers.now }
+{
+    read_u32_at(bytes, headers.directories + 112).unwrap()
 }
 
 /// Tests the headers. Gives where they stand, and the section with the CLI header.

@@ -1,12 +1,11 @@
 // The section table (ECMA-335, II.25.3).
-ghost use Rattle.std.specs.Prelude.{◌≡◌, ◌+◌, ◌*◌, ◌<◌, ◌≤◌, ◌^◌, length, IfNone};
+ghost use Rattle.std.specs.Prelude.{◌≡◌, ◌+◌, ◌-◌, ◌*◌, ◌<◌, ◌≤◌, ◌^◌, length, IfNone};
 ghost use Rattle.cil_base.specs.Refusals.{first_of};
 ghost use Rattle.pe_image.specs.Headers.{table_end};
 ghost use Rattle.pe_image.specs.Sections.{section_of};
 ghost use Rattle.pe_image.specs.Rules.{section_tests};
 
-use crate::fields::refusal_at;
-use crate::fields::{Field, first_cut};
+use crate::fields::{Field, first_cut, refusal_at};
 use crate::headers::Headers;
 use cil_base::{Refusal, Rule, read_u32_at};
 
@@ -22,16 +21,34 @@ pub struct Section {
 }
 
 static SECTION_FIELDS: [Field; 6] = [
-    Field { offset: 0, width: 8 },
-    Field { offset: 8, width: 4 },
-    Field { offset: 12, width: 4 },
-    Field { offset: 16, width: 4 },
-    Field { offset: 20, width: 4 },
-    Field { offset: 36, width: 4 },
+    Field {
+        offset: 0,
+        width: 8,
+    },
+    Field {
+        offset: 8,
+        width: 4,
+    },
+    Field {
+        offset: 12,
+        width: 4,
+    },
+    Field {
+        offset: 16,
+        width: 4,
+    },
+    Field {
+        offset: 20,
+        width: 4,
+    },
+    Field {
+        offset: 36,
+        width: 4,
+    },
 ];
 
 impl Section {
-    ghost use Rattle.pe_image.specs.Sections.{section_at, holds, address_end, raw_end};
+    ghost use Rattle.pe_image.specs.Sections.{section_at, holds, place_in, address_end, raw_end};
     ghost use Rattle.pe_image.specs.Rules.{is_misplaced};
 
     /// The section whose header stands at `at`.
@@ -53,6 +70,20 @@ impl Section {
     {
         self.address <= rva
             && u64::from(rva) + u64::from(len) <= u64::from(self.address) + u64::from(self.raw_size)
+    }
+
+    /// The place in the file of an RVA of its raw bytes.
+    pub fn place(&self, rva: u32) -> usize
+        ensures { result ≡ place_in self.now rva }
+    {
+        self.raw_at as usize + rva.saturating_sub(self.address) as usize
+    }
+
+    /// The number of raw bytes from an RVA on.
+    pub fn left(&self, rva: u32) -> usize
+        ensures { result ≡ self.now.address + self.now.raw_size - rva }
+    {
+        (self.address as usize + self.raw_size as usize).saturating_sub(rva as usize)
     }
 
     /// The end of its RVAs.

@@ -30,10 +30,10 @@ loop-i-preserved c =
     let s = section_at c.args.bytes.now at in
     let same : c.read-section.result ≡ s = c.read-section.ensures in
     let raw_floor : cond (nat_lt 0 s.raw_size) (raw_end s) c.loop-i.raw_floor ≡ c.if-section-gt0.raw_floor =
-        elim c.if-section-gt0.branch [
-        then-section-gt0 w ↦ floor_moved c.read-section.result s c.loop-i.raw_floor c.if-section-gt0.raw_floor same w.if-section-gt0.true (w.raw_floor-is ∙ w.raw_end-raw_floor.ensures)
-        | else-section-gt0 w ↦ floor_kept c.read-section.result s c.loop-i.raw_floor c.if-section-gt0.raw_floor same w.if-section-gt0.false w.raw_floor-is
-        ] in
+    elim c.if-section-gt0.branch [
+      | then-section-gt0 w ↦ floor_moved c.read-section.result s c.loop-i.raw_floor c.if-section-gt0.raw_floor same w.if-section-gt0.true (w.raw_floor-is ∙ w.raw_end-raw_floor.ensures)
+      | else-section-gt0 w ↦ floor_kept c.read-section.result s c.loop-i.raw_floor c.if-section-gt0.raw_floor same w.if-section-gt0.false w.raw_floor-is
+    ] in
     c.loop-i.invariant
     ∙ tests_on c.args.bytes.now c.args.assembly c.loop-i.address_floor c.loop-i.raw_floor at next (h.count - c.loop-i.i) (h.count - (c.loop-i.i + 1)) (left h.count c.loop-i.i c.loop-i-test.true) (omega arith) (omega arith) (cc)
     ∙ floors c.args.bytes.now c.args.assembly (address_end s) c.address_end-address_floor.result (cond (nat_lt 0 s.raw_size) (raw_end s) c.loop-i.raw_floor) c.if-section-gt0.raw_floor next (h.count - (c.loop-i.i + 1)) (sym (c.address_end-address_floor.ensures ∙ ap address_end same)) raw_floor

@@ -7,4 +7,4 @@ abbrev pub invariant-loop-i : goal.invariant-loop-i
 invariant-loop-i l =
     first_of (section_tests l.bytes l.assembly l.size l.size l.headers.sections l.headers.count)
     ≡ first_of
-      (section_tests l.bytes l.assembly l.address_floor l.raw_floor (l.headers.sections + 40 * l.i) (l.headers.count - l.i))
+    (section_tests l.bytes l.assembly l.address_floor l.raw_floor (l.headers.sections + 40 * l.i) (l.headers.count - l.i))
