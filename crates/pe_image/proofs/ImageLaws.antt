@@ -1,5 +1,5 @@
 -- What read finds is what the image layout says.
-use Rattle.std.proofs.Common.{◌≡◌, ℕ, List, Some, None, refl, sym, ap, ◌∙◌}
+use Rattle.std.proofs.Common.{◌≡◌, ℕ, List, Some, sym, ap, ◌∙◌}
 use Rattle.cil_base.specs.Refusals.{first_of}
 use Rattle.pe_image.specs.declared.headers.Headers.{Headers}
 use Rattle.pe_image.specs.declared.section.Section.{Section}

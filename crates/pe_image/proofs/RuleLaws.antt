@@ -1,15 +1,15 @@
 -- The places of the tests on the headers don't fall, so the first of them that fails is the first refusal.
-use Rattle.std.proofs.Common.{◌≡◌, ℕ, zero, suc, ◌+◌, ◌-◌, ◌^◌, ◌<◌, ◌≤◌, min, Bool, true, false, cond, leb, ltb, eqb, not, ◌||◌, ◌&&◌, List, [], ◌∷◌, ◌++◌, length, Option, Some, None, refl, sym, ap, subst, ◌∙◌, inl, inr, ◌⊎◌, arith}
-use Rattle.std.specs.Prelude.{MatchOption, nat_lt, Result, Ok, Err}
-use Rattle.std.proofs.lemmas.Bool.{leb-true, leb-false, ltb-true, ltb-false}
+use Rattle.std.proofs.Common.{◌≡◌, ℕ, zero, suc, ◌+◌, ◌-◌, ◌^◌, ◌<◌, ◌≤◌, min, Bool, true, false, cond, leb, ltb, eqb, not, ◌||◌, ◌&&◌, List, [], ◌∷◌, length, Option, Some, None, refl, inl, inr, arith}
+use Rattle.std.specs.Prelude.{MatchOption, nat_lt}
+use Rattle.std.proofs.lemmas.Bool.{leb-true, ltb-false}
 use Rattle.cil_base.specs.declared.refusal.Refusal.{Refusal}
-use Rattle.cil_base.specs.Refusals.{key, is_less, First, Test, Fails, NoneBroken, first_of}
+use Rattle.cil_base.specs.Refusals.{is_less, First, Test, Fails, NoneBroken, first_of}
 use Rattle.cil_base.specs.Numbers.{num}
 use Rattle.cil_base.proofs.RefusalLaws.{Rises, not_less, first_is_first}
 use Rattle.pe_image.specs.declared.headers.Headers.{Headers}
-use Rattle.pe_image.specs.Headers.{reaches, pe_of, is_plus, headers_at, headers_of, headers_size}
+use Rattle.pe_image.specs.Headers.{pe_of, is_plus, headers_at, headers_of, headers_size}
 use Rattle.pe_image.specs.Sections.{section_at, address_end, raw_end}
-use Rattle.pe_image.specs.Rules.{field, cuts, section_fields, size_fields, directory_fields, section_tests, directory_tests, optional_tests, coff_tests, pe_tests, header_tests, cli_tests, has_pe, is_magic, is_short, Broken}
+use Rattle.pe_image.specs.Rules.{cuts, section_fields, section_tests, directory_tests, optional_tests, coff_tests, header_tests, cli_tests, has_pe, is_magic, is_short, Broken}
 use Rattle.pe_image.specs.Cli.{cli_place}
 
 abbrev place_key : ℕ → ℕ → ℕ → List ℕ

@@ -1,5 +1,5 @@
 -- The rules on images (ECMA-335, II.25), each with its place. A field is tested where the fields that lead to it are in order.
-use Rattle.std.specs.Prelude.{◌≡◌, ◌⊎◌, ℕ, zero, suc, ◌+◌, Bool, not, ◌||◌, ◌&&◌, ◌==◌, nat_lt, nat_le, List, [], ◌∷◌, ◌++◌, map, Option, Some, Result, Ok, Err, is_some, bit_and, if◌then◌else◌}
+use Rattle.std.specs.Prelude.{◌⊎◌, ℕ, zero, suc, ◌+◌, Bool, not, ◌||◌, ◌&&◌, ◌==◌, nat_lt, nat_le, List, [], ◌∷◌, ◌++◌, map, Option, Some, Result, Ok, Err, is_some, bit_and, if◌then◌else◌}
 use Rattle.std.specs.List.{list_any}
 use Rattle.cil_base.specs.declared.rule.Rule.{Rule}
 use Rattle.cil_base.specs.declared.rule.Rule.TheVariants.{P1, P2, P3, P4, P6}

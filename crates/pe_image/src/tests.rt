@@ -145,7 +145,7 @@ const CHANGES: [(usize, u32, Rule, u32); 18] = [
 fn one_changed_field_is_refused(rt: HostRuntime) {
     for (at, value, rule, place) in CHANGES {
         let mut bytes = sample(false);
-        if at + 4 <= SIZE {
+        if at <= SIZE - 4 {
             put(&mut bytes, at, value);
         }
         assert_eq!(rt; Image::read(&bytes, 7).err(), Some(broken(rule, place)));

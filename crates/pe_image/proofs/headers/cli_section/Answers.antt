@@ -1,5 +1,4 @@
 use Rattle.std.proofs.Common.{sym}
-use Rattle.pe_image.specs.Headers.{cli_rva}
 use Rattle.pe_image.proofs.SectionLaws.{found_cli}
 use Rattle.pe_image.proofs.headers.cli_section.Goals as goal
 

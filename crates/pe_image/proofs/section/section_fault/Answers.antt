@@ -1,5 +1,5 @@
-use Rattle.std.proofs.Common.{◌≡◌, ◌+◌, ◌-◌, ◌*◌, ◌∙◌, sym, ap, arith, min, ◌^◌, Some, cond, refl, ℕ}
-use Rattle.std.specs.Prelude.{nat_lt, None, IfNone}
+use Rattle.std.proofs.Common.{◌≡◌, ◌+◌, ◌-◌, ◌*◌, ◌∙◌, sym, ap, arith, min, ◌^◌, Some, cond, ℕ}
+use Rattle.std.specs.Prelude.{nat_lt}
 use Rattle.cil_base.specs.Refusals.{refusal, first_of}
 use Rattle.cil_base.specs.declared.rule.Rule.TheVariants.{P3}
 use Rattle.pe_image.specs.Sections.{address_end, raw_end, section_at}

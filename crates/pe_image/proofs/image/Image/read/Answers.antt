@@ -1,7 +1,7 @@
-use Rattle.std.proofs.Common.{◌≡◌, ◌+◌, ◌≤◌, length, ◌∙◌, sym, ap, None}
+use Rattle.std.proofs.Common.{◌≡◌, ◌+◌, ◌≤◌, length, ◌∙◌, sym, ap}
 use Rattle.std.proofs.lemmas.Result.{err_from_is_err_and}
 use Rattle.cil_base.specs.Refusals.{first_of}
-use Rattle.pe_image.specs.Headers.{headers_of, cli_rva}
+use Rattle.pe_image.specs.Headers.{cli_rva}
 use Rattle.pe_image.specs.Sections.{place_in}
 use Rattle.pe_image.specs.Cli.{cli_of, cli_place}
 use Rattle.pe_image.specs.Rules.{cli_tests}
