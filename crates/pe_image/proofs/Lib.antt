@@ -1,0 +1,3 @@
+pub mod SectionLaws
+pub mod RuleLaws
+pub mod ImageLaws

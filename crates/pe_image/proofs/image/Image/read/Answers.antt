@@ -1,0 +1,61 @@
+use Rattle.std.proofs.Common.{◌≡◌, ◌+◌, ◌≤◌, length, ◌∙◌, sym, ap}
+use Rattle.std.proofs.lemmas.Result.{err_from_is_err_and}
+use Rattle.cil_base.specs.Refusals.{first_of}
+use Rattle.pe_image.specs.Headers.{cli_rva}
+use Rattle.pe_image.specs.Sections.{place_in}
+use Rattle.pe_image.specs.Cli.{cli_of, cli_place}
+use Rattle.pe_image.specs.Rules.{cli_tests}
+use Rattle.pe_image.specs.declared.headers.Headers.{Headers}
+use Rattle.pe_image.proofs.SectionLaws.{place_within}
+use Rattle.pe_image.proofs.RuleLaws.{refused_header, refused_cli, accepted}
+use Rattle.pe_image.proofs.ImageLaws.{place_is, cli_same, cli_is, metadata_is}
+use Rattle.pe_image.proofs.image.Image.read.Goals as goal
+
+pub returns-in_err-headers-clause-refused : goal.returns-in_err-headers-clause-refused
+returns-in_err-headers-clause-refused c =
+    let p = err_from_is_err_and c.from_residual.result c.from_residual.ensures.1 in
+    rw (p.1, p.2) (refused_header c.args.bytes.now c.args.assembly c.in_err-headers.field-0.0 c.requires c.in_err-headers.ensures.tests)
+
+pub read_cli-requires-clause-here : goal.read_cli-requires-clause-here
+read_cli-requires-clause-here c =
+    let b = c.args.bytes.now in
+    let h = c.in_ok-headers.headers in
+    let s = c.in_ok-headers.section in
+    let le : place_in s (cli_rva b h) + 72 ≤ length b = place_within b h (cli_rva b h) 72 s c.in_ok-headers.ensures.section c.in_ok-headers.ensures.within in
+    rw (c.place.ensures, c.cli_rva-rva.ensures) le
+
+pub returns-in_err-cli-clause-refused : goal.returns-in_err-cli-clause-refused
+returns-in_err-cli-clause-refused c =
+    let b = c.args.bytes.now in
+    let a = c.args.assembly in
+    let h = c.in_ok-headers.headers in
+    let at : c.place.result ≡ cli_place b h = place_is b h c.in_ok-headers.section c.cli_rva-rva.result c.place.result c.cli_rva-rva.ensures c.in_ok-headers.ensures.section c.place.ensures in
+    let p = err_from_is_err_and c.from_residual-in_err-cli.result c.from_residual-in_err-cli.ensures.1 in
+    rw (p.1, p.2)
+    (refused_cli b a c.in_err-cli.field-0.0 c.requires c.in_ok-headers.ensures.tests
+    (ap (λ (k : Headers). first_of (cli_tests b a k)) (sym c.in_ok-headers.ensures.headers) ∙ cli_same b a h c.place.result at ∙ c.in_err-cli.ensures.tests))
+
+pub invariant_of-result : goal.invariant_of-result
+invariant_of-result c =
+    let b = c.args.bytes.now in
+    let a = c.args.assembly in
+    let h = c.in_ok-headers.headers in
+    let at : c.place.result ≡ cli_place b h = place_is b h c.in_ok-headers.section c.cli_rva-rva.result c.place.result c.cli_rva-rva.ensures c.in_ok-headers.ensures.section c.place.ensures in
+    let same : c.in_ok-cli.cli ≡ cli_of b = cli_is b h c.cli_rva-rva.result c.place.result c.in_ok-cli.cli c.in_ok-headers.ensures.headers c.cli_rva-rva.ensures at c.in_ok-cli.ensures.cli in (
+      c.requires,
+      c.in_ok-headers.ensures.tests,
+      cli_same b a h c.place.result at ∙ c.in_ok-cli.ensures.tests,
+      c.in_ok-headers.ensures.headers,
+      c.in_ok-headers.ensures.whole,
+      same,
+      metadata_is b h c.in_ok-cli.cli c.in_ok-cli.section c.place-2.result c.part-metadata.result.now c.in_ok-headers.ensures.headers same c.in_ok-cli.ensures.section c.place-2.ensures c.part-metadata.ensures,
+    )
+
+pub returns-clause-accepted : goal.returns-clause-accepted
+returns-clause-accepted c =
+    let b = c.args.bytes.now in
+    let a = c.args.assembly in
+    let h = c.in_ok-headers.headers in
+    let at : c.place.result ≡ cli_place b h = place_is b h c.in_ok-headers.section c.cli_rva-rva.result c.place.result c.cli_rva-rva.ensures c.in_ok-headers.ensures.section c.place.ensures in
+    accepted b a c.requires c.in_ok-headers.ensures.tests
+    (ap (λ (k : Headers). first_of (cli_tests b a k)) (sym c.in_ok-headers.ensures.headers) ∙ cli_same b a h c.place.result at ∙ c.in_ok-cli.ensures.tests)

@@ -1,0 +1,5 @@
+pub mod Headers
+pub mod Sections
+pub mod Cli
+pub mod Rules
+pub mod Images
