@@ -1,0 +1,4 @@
+pub mod Root
+pub mod RootRules
+pub mod Entries
+pub mod Split

@@ -1,0 +1,10 @@
+//! The metadata root and its heaps: read from borrowed bytes, and grown by entries behind the old ones.
+#![tactic(auto)]
+
+mod entries;
+mod heaps;
+mod root;
+mod streams;
+
+pub use heaps::Heaps;
+pub use streams::Stream;
