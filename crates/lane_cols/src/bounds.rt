@@ -14,6 +14,12 @@ fn count_below(col: &[u32], at: usize, bound: u32) -> u32
     lanes.simd_le(u32x8::splat(bound)).to_bitmask().count_ones()
 }
 
+fn each_at_most(col: &[u32], bound: u32) -> bool
+    ensures { result ≡ list_all (λ x. nat_le x bound) col.now }
+{
+    col.iter().all(|x| *x <= bound)
+}
+
 /// Whether no entry is above the bound. It takes no memory.
 pub fn all_at_most(col: &[u32], bound: u32) -> bool
     ensures { result ≡ list_all (λ x. nat_le x bound) col.now }
@@ -25,5 +31,5 @@ pub fn all_at_most(col: &[u32], bound: u32) -> bool
         }
         at += LANES;
     }
-    col[at..].iter().all(|x| *x <= bound)
+    each_at_most(&col[at..], bound)
 }
