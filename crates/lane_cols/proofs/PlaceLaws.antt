@@ -1,7 +1,7 @@
 -- Places of parts, one after another.
-use Rattle.std.proofs.Common.{◌≡◌, ℕ, zero, suc, ◌+◌, ◌-◌, ◌≤◌, ◌<◌, eqb, Bool, true, false, cond, List, [], ◌∷◌, ◌++◌, length, take, drop, take-add, slice_range, get_or, refl, sym, ap, ◌∙◌, arith, add_assoc, count_by, append_assoc, append-nil}
+use Rattle.std.proofs.Common.{◌≡◌, ℕ, suc, ◌+◌, ◌-◌, ◌≤◌, ◌<◌, eqb, Bool, true, false, cond, List, [], ◌∷◌, ◌++◌, length, take, drop, take-add, slice_range, get_or, refl, sym, ap, ◌∙◌, arith, count_by, append_assoc, append-nil}
 use Rattle.std.proofs.lemmas.Bool.{eq-eqb, ne_eqb}
-use Rattle.std.proofs.lemmas.List.{length-take-le, length-append, length-drop, take_more, get_or-drop}
+use Rattle.std.proofs.lemmas.List.{length-take-le, length-drop, take_more, get_or-drop}
 use Rattle.std.proofs.lemmas.List.Sums.{sum_by-cons}
 use Rattle.std.specs.Prelude.{map, filter}
 use Rattle.std.specs.List.{enumerate_from}
@@ -12,7 +12,7 @@ filtered at v [] = refl
 filtered at v (x ∷ xs) = go (eqb x v) (filtered (at + 1) v xs)
   where
     go : (b : Bool) → places_from (at + 1) v xs ≡ map place (filter (holds v) (enumerate_from (at + 1) xs))
-      → cond b (at ∷ places_from (at + 1) v xs) (places_from (at + 1) v xs) ≡ map place (cond b ((at, x) ∷ filter (holds v) (enumerate_from (at + 1) xs)) (filter (holds v) (enumerate_from (at + 1) xs)))
+        → cond b (at ∷ places_from (at + 1) v xs) (places_from (at + 1) v xs) ≡ map place (cond b ((at, x) ∷ filter (holds v) (enumerate_from (at + 1) xs)) (filter (holds v) (enumerate_from (at + 1) xs)))
     go true e = ap (λ (l : List ℕ). at ∷ l) e
     go false e = e
 
@@ -26,8 +26,9 @@ places-append at v (x ∷ xs) ys =
   where
     same : places_from (at + 1 + length xs) v ys ≡ places_from (at + (suc (length xs))) v ys
     same = ap (λ (k : ℕ). places_from k v ys) (omega arith)
+
     go : (b : Bool) → places_from (at + 1) v (xs ++ ys) ≡ places_from (at + 1) v xs ++ places_from (at + 1 + length xs) v ys
-      → cond b (at ∷ places_from (at + 1) v (xs ++ ys)) (places_from (at + 1) v (xs ++ ys)) ≡ cond b (at ∷ places_from (at + 1) v xs) (places_from (at + 1) v xs) ++ places_from (at + suc (length xs)) v ys
+        → cond b (at ∷ places_from (at + 1) v (xs ++ ys)) (places_from (at + 1) v (xs ++ ys)) ≡ cond b (at ∷ places_from (at + 1) v xs) (places_from (at + 1) v xs) ++ places_from (at + suc (length xs)) v ys
     go true e = ap (λ (l : List ℕ). at ∷ l) (e ∙ ap (λ (l : List ℕ). places_from (at + 1) v xs ++ l) same)
     go false e = e ∙ ap (λ (l : List ℕ). places_from (at + 1) v xs ++ l) same
 

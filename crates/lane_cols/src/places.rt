@@ -2,7 +2,6 @@
 ghost use Rattle.std.specs.Prelude.{◌≡◌, ◌+◌, ◌<◌, ◌≤◌, ◌^◌, ◌++◌, ◌==◌, length, IfOk, OnOk, count_by, slice_range};
 ghost use Rattle.lane_cols.specs.Places.{places, places_from};
 
-
 use crate::LANES;
 use cil_base::U32s;
 use std::alloc::{AllocError, Global};
@@ -18,7 +17,13 @@ fn count_in(col: &[u32], at: usize, v: u32) -> u32
 }
 
 /// Appends the places from one on up to another.
-fn push_places(out: &mut U32s, col: &[u32], from: usize, to: usize, v: u32) -> Result<(), AllocError>
+fn push_places(
+    out: &mut U32s,
+    col: &[u32],
+    from: usize,
+    to: usize,
+    v: u32,
+) -> Result<(), AllocError>
     requires order { from ≤ to }
     requires within { to ≤ length col.now }
     requires small { length col.now < 2 ^ 32 }

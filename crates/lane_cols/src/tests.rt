@@ -13,16 +13,14 @@ fn places_of_values(rt: HostRuntime) -> Result<(), AllocError> {
     for i in 0..1003u32 {
         weekdays.push(i % 7)?;
     }
+    assert_eq!(rt; weekdays.len(), 1003);
     let thirds = places_of(alloc, &weekdays, 3)?;
     assert_eq!(rt; thirds.len(), 143);
     assert_eq!(rt; thirds.as_slice().first().copied(), Some(3));
     assert_eq!(rt; thirds.as_slice().last().copied(), Some(997));
 
-    let mut zeros = Vec::new(alloc);
-    for _ in 0..66u32 {
-        zeros.push(0u32)?;
-    }
-    zeros.push(9)?;
+    let mut zeros = [0u32; 67];
+    zeros[66] = 9;
     let last = places_of(alloc, &zeros, 9)?;
     assert_eq!(rt; last.as_slice(), [66u32].as_slice());
     Ok(())

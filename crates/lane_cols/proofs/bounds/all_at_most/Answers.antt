@@ -1,4 +1,4 @@
-use Rattle.std.proofs.Common.{◌≡◌, ℕ, ◌+◌, ◌-◌, ◌≤◌, leb, List, length, length-drop, ◌&&◌, take, drop, take_all, refl, sym, ap, ◌∙◌, arith}
+use Rattle.std.proofs.Common.{◌≡◌, ◌-◌, leb, length, length-drop, ◌&&◌, take, drop, take_all, sym, ap, ◌∙◌, arith}
 use Rattle.std.specs.List.{list_all}
 use Rattle.lane_cols.proofs.BoundLaws.{full_block, broken_block, all_parts}
 use Rattle.lane_cols.proofs.bounds.all_at_most.Goals as goal

@@ -1,4 +1,4 @@
-use Rattle.std.proofs.Common.{◌≡◌, ◌≤◌, ℕ, List, ◌++◌, ap, sym, ◌∙◌, arith, ◌+◌, take, length, take_all, slice_range}
+use Rattle.std.proofs.Common.{◌≤◌, ℕ, List, ◌++◌, ap, sym, ◌∙◌, arith, ◌+◌, length, take_all, slice_range}
 use Rattle.lane_cols.specs.Places.{places_from}
 use Rattle.lane_cols.proofs.PlaceLaws.{up_to, all_places}
 use Rattle.lane_cols.proofs.places.places_of.Goals as goal

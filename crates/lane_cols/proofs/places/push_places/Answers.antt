@@ -1,4 +1,4 @@
-use Rattle.std.proofs.Common.{◌∙◌, ap, arith, ℕ, List}
+use Rattle.std.proofs.Common.{◌∙◌, arith}
 use Rattle.lane_cols.proofs.PlaceLaws.{one_yes, one_no}
 use Rattle.lane_cols.proofs.places.push_places.Goals as goal
 use Rattle.lane_cols.proofs.places.push_places.Goals.{then-col-i+in_ok-push, else-col-i}

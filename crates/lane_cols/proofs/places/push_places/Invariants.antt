@@ -1,4 +1,4 @@
-use Rattle.std.proofs.Common.{◌≡◌, ◌≤◌, ◌++◌, slice_range}
+use Rattle.std.proofs.Common.{◌≡◌, ◌++◌, slice_range}
 use Rattle.lane_cols.specs.Places.{places_from}
 use Rattle.lane_cols.proofs.places.push_places.Given as goal
 
