@@ -13,10 +13,17 @@ pub fn rest_of(bytes: &[u8], at: usize) -> &[u8]
     &bytes[at.min(bytes.len())..]
 }
 
+/// The place of the first zero byte.
+pub fn zero_at(bytes: &[u8]) -> Option<usize>
+    ensures { result ≡ position is_zero bytes.now }
+{
+    bytes.iter().position(|b| *b == 0)
+}
+
 fn before_zero(bytes: &[u8]) -> Option<&[u8]>
     ensures { option_copied result ≡ until_zero bytes.now }
 {
-    match bytes.iter().position(|b| *b == 0) {
+    match zero_at(bytes) {
         Some(n) => Some(&bytes[..n]),
         None => None,
     }

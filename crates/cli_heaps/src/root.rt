@@ -3,7 +3,7 @@ ghost use Rattle.std.specs.Prelude.{◌≡◌, ◌<◌, ◌≤◌, ◌^◌, ◌+
 ghost use Rattle.cil_base.specs.Refusals.{first_of};
 ghost use Rattle.cil_base.specs.Numbers.{num};
 ghost use Rattle.cli_heaps.specs.Root.{first_header, stream_count, stream_bytes, is_named};
-ghost use Rattle.cli_heaps.specs.RootRules.{tests, root_cut, header_cut, is_users, is_cut_stream, is_known, is_repeated, stream_tests, header_tests, lacks_tables, test};
+ghost use Rattle.cli_heaps.specs.RootRules.{tests, root_cut, header_cut, is_user_length, is_users, is_cut_stream, is_known, is_repeated, stream_tests, header_tests, lacks_tables, test};
 
 use crate::entries::rest_of;
 use crate::streams::{
@@ -77,35 +77,42 @@ fn header_cut(meta: &[u8], at: usize) -> Option<u32>
     None
 }
 
+/// Whether an entry of `#US` may have so many bytes.
+fn is_user_length(n: u32) -> bool
+    ensures { result ≡ is_user_length n }
+{
+    n == 0 || n % 2 == 1
+}
+
 /// Whether the bytes are whole entries of `#US`, one after another (ECMA-335, II.24.2.4).
 fn are_users(bytes: &[u8]) -> bool
     ensures { result ≡ is_users 0 bytes.now }
 {
     let mut at = 0;
     while at < bytes.len() {
-        let Some((n, width)) = read_packed(bytes, at) else {
-            return false;
-        };
-        if n != 0 && n % 2 == 0 {
-            return false;
+        match read_packed(bytes, at) {
+            None => return false,
+            Some((n, width)) => {
+                let next = at + n as usize + width as usize;
+                if !is_user_length(n) || next > bytes.len() {
+                    return false;
+                }
+                at = next;
+            }
         }
-        let next = at + n as usize + width as usize;
-        if next > bytes.len() {
-            return false;
-        }
-        at = next;
     }
     true
 }
 
 /// Whether `#~` is too short for its header and for a count for each bit of Valid.
+#[tactic(auto, unfolding(cil_base::specs::Numbers::num))]
 fn are_cut_tables(bytes: &[u8]) -> bool
     ensures { result ≡ nat_lt (length bytes.now) (24 + 4 * count_ones (num bytes.now 8 8)) }
 {
     if bytes.len() < 24 {
         return true;
     }
-    let valid = LittleEndian::read_u64(&bytes[8..]);
+    let valid = LittleEndian::read_u64(rest_of(bytes, 8));
     bytes.len() < 24 + 4 * valid.count_ones() as usize
 }
 
@@ -116,17 +123,20 @@ fn is_cut_stream(meta: &[u8], stream: &Stream<'_>) -> bool
     if meta.len() < stream.offset() as usize + stream.size() as usize {
         return true;
     }
-    if stream.name() == b"#~".as_slice() && are_cut_tables(bytes_in(meta, stream)) {
+    if stream.is_named(b"#~") && are_cut_tables(bytes_in(meta, stream)) {
         return true;
     }
-    stream.name() == b"#US".as_slice() && !are_users(rest_of(bytes_in(meta, stream), 1))
+    stream.is_named(b"#US") && !are_users(rest_of(bytes_in(meta, stream), 1))
 }
 
 fn is_known(stream: &Stream<'_>) -> bool
     ensures { result ≡ is_known stream.now }
 {
-    let name = stream.name();
-    name == b"#~".as_slice() || name == b"#Strings".as_slice() || name == b"#US".as_slice() || name == b"#GUID".as_slice() || name == b"#Blob".as_slice()
+    stream.is_named(b"#~")
+        || stream.is_named(b"#Strings")
+        || stream.is_named(b"#US")
+        || stream.is_named(b"#GUID")
+        || stream.is_named(b"#Blob")
 }
 
 /// Whether another stream of a known name stands before this one.
@@ -155,7 +165,7 @@ fn stream_fault(meta: &[u8], assembly: u32, stream: &Stream<'_>) -> Option<Refus
     if is_repeated(meta, stream) {
         return Some(refusal(Rule::M2, assembly, stream.header()));
     }
-    if stream.name() == b"#-".as_slice() {
+    if stream.is_named(b"#-") {
         return Some(refusal(Rule::M3, assembly, stream.header()));
     }
     None
@@ -166,8 +176,8 @@ fn header_fault(meta: &[u8], assembly: u32) -> Option<Refusal>
     requires whole { root_cut meta.now ≡ None }
     ensures { result ≡ first_of (header_tests meta.now assembly (first_header meta.now) (stream_count meta.now)) }
 {
-    let (mut at, count) = first_header(meta);
-    for _ in 0..count {
+    let (mut at, mut left) = first_header(meta);
+    while left > 0 {
         let Some((stream, end)) = header_at(meta, at) else {
             return match header_cut(meta, at) {
                 Some(at) => Some(refusal(Rule::M1, assembly, at)),
@@ -178,6 +188,7 @@ fn header_fault(meta: &[u8], assembly: u32) -> Option<Refusal>
             return Some(fault);
         }
         at = end;
+        left -= 1;
     }
     None
 }

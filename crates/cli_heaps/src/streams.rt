@@ -3,7 +3,7 @@ ghost use Rattle.std.specs.Prelude.{◌≡◌, ◌<◌, ◌≤◌, ◌^◌, ◌+
 ghost use Rattle.cli_heaps.specs.Root.{is_zero, is_named, name_at, name_width, header_end, is_whole_header, header_at, stream_at, stream_bytes, first_header, stream_count, streams, streams_from, first_named, bytes_of, offset_of, heap_named};
 ghost use Rattle.cli_heaps.specs.RootRules.{root_cut};
 
-use crate::entries::rest_of;
+use crate::entries::{rest_of, zero_at};
 use cil_base::{read_u16_at, read_u32_at};
 use std::alloc::{AllocError, Global};
 use std::marker::Model;
@@ -47,6 +47,13 @@ impl<'a> Stream<'a> {
         self.size
     }
 
+    /// Whether it has this name.
+    pub fn is_named(&self, name: &[u8]) -> bool
+        ensures { result ≡ is_named name.now self.now }
+    {
+        self.name == name
+    }
+
     /// The name, without the zero byte behind it.
     pub fn name(&self) -> &'a [u8]
         ensures { result.now ≡ self.now.name }
@@ -60,7 +67,7 @@ fn name_at(meta: &[u8], at: usize) -> &[u8]
     ensures { result.now ≡ name_at meta.now at }
 {
     let rest = rest_of(meta, at);
-    match rest.iter().position(|b| *b == 0) {
+    match zero_at(rest) {
         Some(n) => &rest[..n],
         None => rest,
     }
@@ -106,15 +113,11 @@ pub fn header_at(meta: &[u8], at: usize) -> Option<(Stream<'_>, usize)>
 pub fn first_header(meta: &[u8]) -> (usize, u16)
     requires { root_cut meta.now ≡ None }
     ensures first { result.0 ≡ first_header meta.now }
+    ensures within { result.0 ≤ length meta.now }
     ensures count { result.1 ≡ stream_count meta.now }
 {
-    let Some(length) = read_u32_at(meta, 12) else {
-        return (0, 0);
-    };
-    let length = length as usize;
-    let Some(count) = read_u16_at(meta, 18 + length) else {
-        return (0, 0);
-    };
+    let length = read_u32_at(meta, 12).unwrap_or(0) as usize;
+    let count = read_u16_at(meta, 18 + length).unwrap_or(0);
     (20 + length, count)
 }
 
@@ -124,15 +127,16 @@ pub fn find_stream<'a>(meta: &'a [u8], name: &[u8]) -> Option<Stream<'a>>
     requires whole { root_cut meta.now ≡ None }
     ensures { result ≡ first_named meta.now name.now }
 {
-    let (mut at, count) = first_header(meta);
-    for _ in 0..count {
+    let (mut at, mut left) = first_header(meta);
+    while left > 0 {
         let Some((stream, end)) = header_at(meta, at) else {
             return None;
         };
-        if stream.name == name {
+        if stream.is_named(name) {
             return Some(stream);
         }
         at = end;
+        left -= 1;
     }
     None
 }
@@ -143,13 +147,14 @@ pub fn are_whole(meta: &[u8]) -> bool
     requires whole { root_cut meta.now ≡ None }
     ensures { result ≡ (length (streams meta.now) == stream_count meta.now) }
 {
-    let (mut at, count) = first_header(meta);
-    for _ in 0..count {
+    let (mut at, mut left) = first_header(meta);
+    while left > 0 {
         let end = header_end(meta, at);
         if end > meta.len() {
             return false;
         }
         at = end;
+        left -= 1;
     }
     true
 }
@@ -161,13 +166,14 @@ pub fn all_streams(alloc: Global, meta: &[u8]) -> Result<Vec<Stream<'_>>, AllocE
     ensures { IfOk result (λ v. v.items ≡ streams meta.now) }
 {
     let mut found = Vec::new(alloc);
-    let (mut at, count) = first_header(meta);
-    for _ in 0..count {
+    let (mut at, mut left) = first_header(meta);
+    while left > 0 {
         let Some((stream, end)) = header_at(meta, at) else {
             return Ok(found);
         };
         found.push(stream)?;
         at = end;
+        left -= 1;
     }
     Ok(found)
 }

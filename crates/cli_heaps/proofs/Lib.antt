@@ -1,0 +1,5 @@
+pub mod EntryLaws
+pub mod UserLaws
+pub mod StreamLaws
+pub mod RootLaws
+pub mod AcceptedLaws
