@@ -8,3 +8,6 @@ mod streams;
 
 pub use heaps::Heaps;
 pub use streams::Stream;
+
+#[cfg(test)]
+mod tests;
