@@ -2,3 +2,4 @@ pub mod Root
 pub mod RootRules
 pub mod Entries
 pub mod Split
+pub mod Growth

@@ -134,6 +134,19 @@ impl<'a> Heaps<'a> {
         self.guids
     }
 
+    /// The lengths of `#Strings`, `#Blob` and `#US`.
+    pub(crate) fn lengths(&self) -> (u32, u32, u32)
+        ensures strings { result.0 ≡ length (strings self.now.bytes) }
+        ensures blobs { result.1 ≡ length (blobs self.now.bytes) }
+        ensures users { result.2 ≡ length (users self.now.bytes) }
+    {
+        (
+            self.strings.len() as u32,
+            self.blobs.len() as u32,
+            self.users.len() as u32,
+        )
+    }
+
     /// The string at a place of `#Strings`, without the zero byte behind it (II.24.2.3).
     pub fn string(&self, at: u32) -> Option<&'a [u8]>
         ensures { option_copied result ≡ string_at (strings self.now.bytes) at }
