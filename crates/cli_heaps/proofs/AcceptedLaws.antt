@@ -1,11 +1,11 @@
 -- What holds of a metadata root that breaks no rule.
-use Rattle.std.proofs.Common.{◌≡◌, ◌≢◌, ℕ, zero, suc, ◌+◌, ◌-◌, ◌*◌, ◌^◌, ◌≤◌, ◌<◌, ltb, leb, eqb, not, Bool, true, false, cond, ◌||◌, ◌&&◌, List, [], ◌∷◌, ◌++◌, length, take, drop, Option, Some, None, is_some, refl, sym, ap, ap₂, subst, ◌∙◌, inl, inr, ◌⊎◌, arith, codes}
+use Rattle.std.proofs.Common.{◌≡◌, ℕ, zero, suc, ◌+◌, ◌*◌, ◌≤◌, eqb, not, Bool, true, false, cond, ◌||◌, ◌&&◌, List, [], ◌∷◌, ◌++◌, length, drop, Option, Some, None, is_some, refl, sym, ap, subst, ◌∙◌, inl, inr, arith, codes}
 use Rattle.std.specs.Prelude.{find, count_ones}
-use Rattle.std.proofs.lemmas.Bool.{leb-true, le-leb, lt-leb, leb-false, ltb-false, eqb-true, eq-eqb}
-use Rattle.std.proofs.lemmas.List.{length-take-le, length-take, length-drop}
+use Rattle.std.proofs.lemmas.Bool.{leb-true, leb-false, ltb-false, eq-eqb}
+use Rattle.std.proofs.lemmas.List.{length-take-le, length-drop}
 use Rattle.cil_base.specs.declared.refusal.Refusal.{Refusal}
 use Rattle.cil_base.specs.declared.rule.Rule.TheVariants.{M1, M2, M3}
-use Rattle.cil_base.specs.Refusals.{NoneBroken, Test, Fails, first_of}
+use Rattle.cil_base.specs.Refusals.{NoneBroken, Test, Fails}
 use Rattle.cil_base.specs.Numbers.{num}
 use Rattle.cli_heaps.specs.Root.{Stream, version_length, stream_count, first_header, name_at, name_width, is_whole_header, header_end, stream_at, streams_from, streams, stream_bytes, bytes_of, offset_of, is_named, first_named, tables, tables_offset}
 use Rattle.cli_heaps.specs.RootRules.{test, is_repeated, is_signed, root_cut, header_cut, is_cut_stream, stream_tests, cut_tests, header_tests, lacks_tables, root_tests, tests, Broken}
@@ -63,8 +63,8 @@ all_whole meta a at zero le none = refl
 all_whole meta a at (suc n) le none = go (is_whole_header meta at) refl (λ l h. all_whole meta a (header_end meta at) n l h) none
   where
     go : (b : Bool) → is_whole_header meta at ≡ b → (header_end meta at ≤ length meta → NoneFails (header_tests meta a (header_end meta at) n) → length (streams_from meta (header_end meta at) n) ≡ n)
-      → NoneFails (cond b (stream_tests meta a (stream_at meta at) ++ header_tests meta a (header_end meta at) n) (cut_tests a (header_cut meta at)))
-      → length (cond b (stream_at meta at ∷ streams_from meta (header_end meta at) n) []) ≡ suc n
+        → NoneFails (cond b (stream_tests meta a (stream_at meta at) ++ header_tests meta a (header_end meta at) n) (cut_tests a (header_cut meta at)))
+        → length (cond b (stream_at meta at ∷ streams_from meta (header_end meta at) n) []) ≡ suc n
     go true e rest h = ap suc (rest (leb-true (header_end meta at) (length meta) e) (λ r f. h r (fails_behind (stream_tests meta a (stream_at meta at)) (header_tests meta a (header_end meta at) n) r f)))
     go false e rest h = let fits : header_end meta at ≤ length meta = whole_header meta a at le h in absurd (omega (arith, leb-false (header_end meta at) (length meta) e, fits))
 
@@ -78,12 +78,14 @@ found_fits meta name a at (suc n) s none e = go (is_whole_header meta at) (λ h 
   where
     here : Stream
     here = stream_at meta at
+
     found : (b : Bool) → is_named name here ≡ b → is_cut_stream meta here ≡ false → (find (is_named name) (streams_from meta (header_end meta at) n) ≡ Some s → (is_cut_stream meta s ≡ false) × (is_named name s ≡ true)) → cond b (Some here) (find (is_named name) (streams_from meta (header_end meta at) n)) ≡ Some s → (is_cut_stream meta s ≡ false) × (is_named name s ≡ true)
     found true t fits rest k = let same : here ≡ s = cc in (subst (λ (x : Stream). is_cut_stream meta x ≡ false) same fits, subst (λ (x : Stream). is_named name x ≡ true) same t)
     found false t fits rest k = rest k
+
     go : (b : Bool) → (NoneFails (header_tests meta a (header_end meta at) n) → find (is_named name) (streams_from meta (header_end meta at) n) ≡ Some s → (is_cut_stream meta s ≡ false) × (is_named name s ≡ true))
-      → NoneFails (cond b (stream_tests meta a here ++ header_tests meta a (header_end meta at) n) (cut_tests a (header_cut meta at)))
-      → find (is_named name) (cond b (here ∷ streams_from meta (header_end meta at) n) []) ≡ Some s → (is_cut_stream meta s ≡ false) × (is_named name s ≡ true)
+        → NoneFails (cond b (stream_tests meta a here ++ header_tests meta a (header_end meta at) n) (cut_tests a (header_cut meta at)))
+        → find (is_named name) (cond b (here ∷ streams_from meta (header_end meta at) n) []) ≡ Some s → (is_cut_stream meta s ≡ false) × (is_named name s ≡ true)
     go true rest h k = found (is_named name here) refl (cut_passes meta a here (header_tests meta a (header_end meta at) n) h) (rest (λ r f. h r (fails_behind (stream_tests meta a here) (header_tests meta a (header_end meta at) n) r f))) k
     go false rest h k = absurd cc
 
@@ -123,7 +125,7 @@ tables_fit meta a none =
     record { whole = fit.0; within = fit.1 }
   where
     go : (o : Option Stream) → first_named meta (codes "#~") ≡ o → (eqb (length (streams meta)) (stream_count meta) && not (is_some o)) ≡ false → NoneFails (header_tests meta a (first_header meta) (stream_count meta)) → length (streams meta) ≡ stream_count meta
-      → (24 + 4 * count_ones (num (bytes_of meta o) 8 8) ≤ length (bytes_of meta o)) × (offset_of o + length (bytes_of meta o) ≤ length meta)
+        → (24 + 4 * count_ones (num (bytes_of meta o) 8 8) ≤ length (bytes_of meta o)) × (offset_of o + length (bytes_of meta o) ≤ length meta)
     go None e lacks passed count = absurd (differ (sym (ap (λ (b : Bool). b && true) (eq-eqb (length (streams meta)) (stream_count meta) count)) ∙ lacks))
       where
         differ : true ≡ false → ⊥

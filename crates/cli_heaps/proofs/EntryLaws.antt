@@ -1,10 +1,8 @@
 -- Where a zero byte, and so the end of a string, is found.
-use Rattle.std.proofs.Common.{◌≡◌, ◌≢◌, ℕ, zero, suc, ◌+◌, ◌-◌, ◌≤◌, ◌<◌, ltb, leb, eqb, not, Bool, true, false, cond, ◌||◌, List, [], ◌∷◌, ◌++◌, length, take, drop, get_or, drop-cons, Option, Some, None, is_some, refl, sym, ap, ◌∙◌, arith, position, add-one, option_map}
-use Rattle.std.specs.List.{list_any, prefix_len, position_or_len}
-use Rattle.std.proofs.lemmas.Bool.{ltb-true, ltb-false, lt-ltb, le-ltb, eqb-true, eq-eqb, ne_eqb}
-use Rattle.std.proofs.lemmas.List.{take-append-drop, length-drop, drop-drop}
-use Rattle.std.proofs.lemmas.List.Folds.{list_any-append}
-use Rattle.std.proofs.lemmas.List.Sums.{prefix_len-le-length}
+use Rattle.std.proofs.Common.{◌≡◌, ◌≢◌, ℕ, zero, suc, ◌+◌, ◌-◌, ◌≤◌, ◌<◌, ltb, eqb, not, Bool, true, false, cond, ◌||◌, List, [], ◌∷◌, length, take, drop, get_or, drop-cons, Some, None, is_some, refl, sym, ap, ◌∙◌, arith, option_map}
+use Rattle.std.specs.List.{list_any, position_or_len}
+use Rattle.std.proofs.lemmas.Bool.{ltb-true, ltb-false, lt-ltb, eq-eqb, ne_eqb}
+use Rattle.std.proofs.lemmas.List.{drop-drop}
 use Rattle.cli_heaps.specs.Root.{is_zero}
 use Rattle.cli_heaps.specs.Entries.{until_zero, string_at}
 
@@ -65,13 +63,16 @@ strings_before heap end at le none last = first (eqb at 0) refl
         let there : list_any is_zero (drop (end - 1) heap) ≡ true = zero_in_front heap end (omega arith) le ∙ ap (λ (b : Bool). b || list_any is_zero (drop end heap)) (eq-eqb (get_or heap (end - 1) 0) 0 (last (omega arith))) in
         let n : at + (end - 1 - at) ≡ end - 1 = omega arith in
         some_undropped is_zero (end - 1 - at) (drop at heap) (ap (list_any is_zero) (drop-drop (end - 1 - at) at heap) ∙ ap (λ (k : ℕ). list_any is_zero (drop k heap)) n ∙ there)
+
     outside : end ≤ at → list_any is_zero (drop at heap) ≡ false
     outside ge =
         let n : end + (at - end) ≡ at = omega arith in
         ap (λ (k : ℕ). list_any is_zero (drop k heap)) (sym n) ∙ ap (list_any is_zero) (sym (drop-drop (at - end) end heap)) ∙ none_dropped is_zero (at - end) (drop end heap) none
+
     rest : (b : Bool) → ltb at end ≡ b → list_any is_zero (drop at heap) ≡ b
     rest true e = inside (ltb-true at end e)
     rest false e = outside (ltb-false at end e)
+
     first : (b : Bool) → eqb at 0 ≡ b → is_some (cond b (Some []) (until_zero (drop at heap))) ≡ (b || ltb at end)
     first true e = refl
     first false e = until_any (drop at heap) ∙ rest (ltb at end) refl

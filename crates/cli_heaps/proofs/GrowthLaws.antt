@@ -1,11 +1,10 @@
 -- A heap that grows: look-ups of appended entries, and what is read.
-use Rattle.std.proofs.Common.{◌≡◌, ◌≢◌, ℕ, zero, suc, ◌+◌, ◌-◌, ◌^◌, ◌≤◌, ◌<◌, ltb, leb, eqb, Bool, true, false, cond, List, [], ◌∷◌, ◌++◌, length, Option, Some, None, IfSome, refl, sym, ap, ap₂, subst, ◌∙◌, arith, append_assoc, length-append, inl, inr, ◌⊎◌}
+use Rattle.std.proofs.Common.{◌≡◌, ℕ, ◌+◌, ◌^◌, ◌≤◌, ◌<◌, eqb, Bool, true, false, cond, List, [], ◌∷◌, ◌++◌, length, Option, Some, None, IfSome, refl, sym, ap, ap₂, subst, ◌∙◌, arith, append_assoc, length-append, inl, inr, ◌⊎◌}
 use Rattle.std.specs.Prelude.{Vec, Result, Ok, Err, IfOk, OnErr, MatchOption}
 use Rattle.std.specs.List.{list_any}
 use Rattle.std.specs.Map.{lookup}
 use Rattle.std.specs.Cmp.Lexicographic.{pointwise, bytes_decides}
 use Rattle.std.specs.declared.alloc.Global.{Global}
-use Rattle.std.proofs.lemmas.Bool.{eqb-true, ne_eqb}
 use Rattle.cil_base.specs.Packed.{packed_spelling}
 use Rattle.cil_base.specs.declared.refusal.Fault.{Fault}
 use Rattle.cli_heaps.specs.Root.{is_zero}
@@ -33,7 +32,7 @@ found_cases test [] content at n e = go (test content) refl e
 found_cases test (x ∷ es) content at n e = go (test x.0) (λ h. found_cases test es content at n h) e
   where
     go : (b : Bool) → (lookup test (es ++ (content, at) ∷ []) ≡ Some n → (lookup test es ≡ Some n) ⊎ ((test content ≡ true) × (at ≡ n)))
-      → cond b (Some x.1) (lookup test (es ++ (content, at) ∷ [])) ≡ Some n → (cond b (Some x.1) (lookup test es) ≡ Some n) ⊎ ((test content ≡ true) × (at ≡ n))
+        → cond b (Some x.1) (lookup test (es ++ (content, at) ∷ [])) ≡ Some n → (cond b (Some x.1) (lookup test es) ≡ Some n) ⊎ ((test content ≡ true) × (at ≡ n))
     go true rest h = inl h
     go false rest h = rest h
 
@@ -61,6 +60,7 @@ all_read read g content entry old kept fresh c n e = go (found_cases (λ k. poin
   where
     new : Growth
     new = appended g content entry
+
     go : (lookup (λ k. pointwise eqb c k) g.entries ≡ Some n) ⊎ ((pointwise eqb c content ≡ true) × (next_place g ≡ n)) → ReadsAt read new n c
     go (inl there) heap long = some_is (read (heap ++ g.added) n) (λ x. read (heap ++ new.added) n ≡ Some x) c (old c n there heap long) (kept heap n)
       where
@@ -127,7 +127,7 @@ pub record Reads (read : List ℕ → ℕ → Option (List ℕ)) (g new : Growth
   pub back : IfOk r (λ at. ReadsAt read new at content)
 
 pub reads_after : (read : List ℕ → ℕ → Option (List ℕ)) → Kept read → (g new : Growth) (content entry : List ℕ) (limit : ℕ) (r : Result ℕ Fault) → IfOk r (λ at. Appends g content entry limit at new) → OnErr r (new ≡ g) → AllRead read g
-  → (next_place g + length entry ≤ limit → ReadsAt read (appended g content entry) (next_place g) content) → Reads read g new content r
+    → (next_place g + length entry ≤ limit → ReadsAt read (appended g content entry) (next_place g) content) → Reads read g new content r
 reads_after read stays g new content entry limit (Err e) ok err old fresh =
     record { all = subst (AllRead read) (sym err) old; kept = subst (KeepsEntries read g) (sym err) (entries_stay read g); back = tt }
 reads_after read stays g new content entry limit (Ok at) ok err old fresh = go (place_of g content) refl ok

@@ -1,8 +1,8 @@
 -- What is read in a heap is read there still when bytes are added behind it; an entry is read where it was added.
-use Rattle.std.proofs.Common.{◌≡◌, ◌≢◌, ℕ, zero, suc, ◌+◌, ◌-◌, ◌*◌, ◌/◌, ◌%◌, ◌^◌, ◌≤◌, ◌<◌, ltb, leb, eqb, not, Bool, true, false, cond, ◌||◌, ◌&&◌, List, [], ◌∷◌, ◌++◌, length, take, drop, Option, Some, None, IfSome, refl, sym, ap, subst, ◌∙◌, arith, position, option_map, append_assoc, length-append, length-drop}
+use Rattle.std.proofs.Common.{◌≡◌, ℕ, suc, ◌+◌, ◌-◌, ◌*◌, ◌/◌, ◌%◌, ◌^◌, ◌≤◌, ◌<◌, ltb, leb, eqb, not, Bool, true, false, cond, ◌||◌, List, [], ◌∷◌, ◌++◌, length, take, drop, Option, Some, None, IfSome, refl, sym, ap, ◌∙◌, arith, option_map, append_assoc, length-append, length-drop}
 use Rattle.std.specs.List.{list_any, position_or_len}
-use Rattle.std.proofs.Math.Seq.{drop-append_seam, take-append_seam}
-use Rattle.std.proofs.lemmas.Bool.{ltb-true, ltb-false, lt-ltb, le-ltb, leb-true, le-leb, lt-leb, leb-false, ne_eqb}
+use Rattle.std.proofs.Math.Seq.{drop-append_seam}
+use Rattle.std.proofs.lemmas.Bool.{ltb-true, lt-ltb, le-ltb, leb-true, le-leb, leb-false, ne_eqb}
 use Rattle.std.proofs.lemmas.List.{drop-append-le, take-append-le, drop_all}
 use Rattle.cil_base.specs.Packed.{packed_front, packed_two, packed_four, packed_at, packed_spelling}
 use Rattle.cli_heaps.specs.Root.{is_zero}
@@ -20,11 +20,13 @@ until_cons x xs = go (eqb x 0) (ltb (position_or_len is_zero xs) (length xs)) re
   where
     more : (a b : ℕ) → ltb (1 + a) (suc b) ≡ ltb a b
     more a b = grind arith
+
     one : (n : ℕ) → take (1 + n) (x ∷ xs) ≡ x ∷ take n xs
     one n = let e : 1 + n ≡ suc n = omega arith in ap (λ (k : ℕ). take k (x ∷ xs)) e
+
     go : (b c : Bool) → ltb (position_or_len is_zero xs) (length xs) ≡ c
-      → option_map (λ (n : ℕ). take n (x ∷ xs)) (cond (ltb (cond (not b) (1 + position_or_len is_zero xs) 0) (suc (length xs))) (Some (cond (not b) (1 + position_or_len is_zero xs) 0)) None)
-      ≡ cond b (Some []) (option_map (λ (l : List ℕ). x ∷ l) (option_map (λ (n : ℕ). take n xs) (cond c (Some (position_or_len is_zero xs)) None)))
+        → option_map (λ (n : ℕ). take n (x ∷ xs)) (cond (ltb (cond (not b) (1 + position_or_len is_zero xs) 0) (suc (length xs))) (Some (cond (not b) (1 + position_or_len is_zero xs) 0)) None)
+        ≡ cond b (Some []) (option_map (λ (l : List ℕ). x ∷ l) (option_map (λ (n : ℕ). take n xs) (cond c (Some (position_or_len is_zero xs)) None)))
     go true c e = ap (λ (d : Bool). option_map (λ (n : ℕ). take n (x ∷ xs)) (cond d (Some 0) None)) (lt-ltb 0 (suc (length xs)) (omega arith))
     go false true e = ap (λ (d : Bool). option_map (λ (n : ℕ). take n (x ∷ xs)) (cond d (Some (1 + position_or_len is_zero xs)) None)) (more (position_or_len is_zero xs) (length xs) ∙ e) ∙ ap Some (one (position_or_len is_zero xs))
     go false false e = ap (λ (d : Bool). option_map (λ (n : ℕ). take n (x ∷ xs)) (cond d (Some (1 + position_or_len is_zero xs)) None)) (more (position_or_len is_zero xs) (length xs) ∙ e)
@@ -56,8 +58,10 @@ string_kept heap more at s e = first (eqb at 0) e
       where
         past : length heap < at → length heap ≤ at
         past l = omega arith
+
         none : None ≡ Some s → ⊥
         none k = cc
+
     first : (b : Bool) → cond b (Some []) (until_zero (drop at heap)) ≡ Some s → cond b (Some []) (until_zero (drop at (heap ++ more))) ≡ Some s
     first true h = h
     first false h = rest (leb at (length heap)) refl h
@@ -109,14 +113,17 @@ blob_kept heap more at s e = first (eqb at 0) e
     counted (Some (n, width)) f le h =
         let again : packed_front (drop at (heap ++ more)) ≡ Some (n, width) = ap packed_front (drop-append-le at heap more le) ∙ packed_kept (drop at heap) more (n, width) f in
         ap (counted_at (heap ++ more) at) again ∙ bytes_kept heap more (at + width) n s h
+
     rest : (b : Bool) → leb at (length heap) ≡ b → counted_at heap at (packed_front (drop at heap)) ≡ Some s → counted_at (heap ++ more) at (packed_front (drop at (heap ++ more))) ≡ Some s
     rest true t h = counted (packed_front (drop at heap)) refl (leb-true at (length heap) t) h
     rest false t h = absurd (none (sym (ap (λ (l : List ℕ). counted_at heap at (packed_front l)) (drop_all at heap (past (leb-false at (length heap) t)))) ∙ h))
       where
         past : length heap < at → length heap ≤ at
         past l = omega arith
+
         none : None ≡ Some s → ⊥
         none k = cc
+
     first : (b : Bool) → cond b (Some []) (counted_at heap at (packed_front (drop at heap))) ≡ Some s → cond b (Some []) (counted_at (heap ++ more) at (packed_front (drop at (heap ++ more)))) ≡ Some s
     first true h = h
     first false h = rest (leb at (length heap)) refl h
@@ -127,9 +134,10 @@ spelling_read n rest small = go (ltb n 0x80) (ltb n 0x4000) refl refl
   where
     pair : (a b w : ℕ) → a ≡ b → ◌≡◌ {A = Option (ℕ × ℕ)} (Some (a, w)) (Some (b, w))
     pair a b w e = let some : ℕ → Option (ℕ × ℕ) = λ k. Some (k, w) in ap some e
+
     go : (x y : Bool) → ltb n 0x80 ≡ x → ltb n 0x4000 ≡ y
-      → packed_front (cond x (n ∷ []) (cond y ((0x80 + n / 2 ^ 8) ∷ (n % 2 ^ 8) ∷ []) ((0xC0 + n / 2 ^ 24) ∷ (n / 2 ^ 16 % 2 ^ 8) ∷ (n / 2 ^ 8 % 2 ^ 8) ∷ (n % 2 ^ 8) ∷ [])) ++ rest)
-      ≡ Some (n, length (cond x (n ∷ []) (cond y ((0x80 + n / 2 ^ 8) ∷ (n % 2 ^ 8) ∷ []) ((0xC0 + n / 2 ^ 24) ∷ (n / 2 ^ 16 % 2 ^ 8) ∷ (n / 2 ^ 8 % 2 ^ 8) ∷ (n % 2 ^ 8) ∷ []))))
+        → packed_front (cond x (n ∷ []) (cond y ((0x80 + n / 2 ^ 8) ∷ (n % 2 ^ 8) ∷ []) ((0xC0 + n / 2 ^ 24) ∷ (n / 2 ^ 16 % 2 ^ 8) ∷ (n / 2 ^ 8 % 2 ^ 8) ∷ (n % 2 ^ 8) ∷ [])) ++ rest)
+        ≡ Some (n, length (cond x (n ∷ []) (cond y ((0x80 + n / 2 ^ 8) ∷ (n % 2 ^ 8) ∷ []) ((0xC0 + n / 2 ^ 24) ∷ (n / 2 ^ 16 % 2 ^ 8) ∷ (n / 2 ^ 8 % 2 ^ 8) ∷ (n % 2 ^ 8) ∷ []))))
     go true y e f = ap (λ (b : Bool). cond {A = Option (ℕ × ℕ)} b (Some (n, 1)) (cond (ltb n 0xC0) (packed_two n rest) (cond (ltb n 0xE0) (packed_four n rest) None))) e
     go false true e f =
         let big : ltb (0x80 + n / 2 ^ 8) 0x80 ≡ false = le-ltb (0x80 + n / 2 ^ 8) 0x80 (omega arith) in
@@ -157,6 +165,7 @@ blob_added heap b pos small =
   where
     ap₂-drop : (xs ys zs : List ℕ) → drop (length xs + length ys) (xs ++ (ys ++ zs)) ≡ zs
     ap₂-drop xs ys zs = ap (λ (l : List ℕ). drop (length xs + length ys) l) (sym (append_assoc xs ys zs)) ∙ ap (λ (k : ℕ). drop k ((xs ++ ys) ++ zs)) (sym (length-append xs ys)) ∙ drop-append_seam (xs ++ ys) zs
+
     take_whole : (l : List ℕ) → take (length l) l ≡ l
     take_whole [] = refl
     take_whole (x ∷ xs) = ap (λ (k : List ℕ). x ∷ k) (take_whole xs)

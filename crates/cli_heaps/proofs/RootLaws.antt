@@ -1,13 +1,12 @@
 -- The tests of the root: one after another, their places rise, and what holds where none fails.
-use Rattle.std.proofs.Common.{◌≡◌, ◌≢◌, ℕ, zero, suc, ◌+◌, ◌-◌, ◌*◌, ◌^◌, ◌≤◌, ◌<◌, ltb, leb, eqb, not, Bool, true, false, cond, ◌||◌, ◌&&◌, List, [], ◌∷◌, ◌++◌, length, take, drop, Option, Some, None, is_some, refl, sym, ap, ap₂, subst, ◌∙◌, inl, inr, ◌⊎◌, arith, codes}
-use Rattle.std.specs.Prelude.{find, MatchOption, count_ones}
-use Rattle.std.proofs.lemmas.Bool.{leb-true, le-leb, lt-leb, ltb-false, eqb-true, eq-eqb}
+use Rattle.std.proofs.Common.{◌≡◌, ℕ, zero, suc, ◌+◌, ◌-◌, ◌≤◌, ◌<◌, leb, Bool, true, false, cond, List, [], ◌∷◌, ◌++◌, length, Option, Some, None, refl, sym, ap, ap₂, ◌∙◌, arith}
+use Rattle.std.specs.Prelude.{MatchOption}
+use Rattle.std.proofs.lemmas.Bool.{leb-true}
 use Rattle.cil_base.specs.declared.refusal.Refusal.{Refusal}
-use Rattle.cil_base.specs.Refusals.{key, is_less, First, NoneBroken, Test, Fails, first_of}
-use Rattle.cil_base.specs.Numbers.{num}
-use Rattle.cil_base.proofs.RefusalLaws.{Rises, not_less, less_refl, first_is_first}
-use Rattle.cli_heaps.specs.Root.{Stream, version_length, stream_count, first_header, name_at, name_width, is_whole_header, header_end, header_at, stream_at, streams_from, streams, stream_bytes, is_named, first_named, heap_named, tables, tables_offset}
-use Rattle.cli_heaps.specs.RootRules.{test, cut_field, is_signed, root_cut, header_cut, is_cut_stream, stream_tests, cut_tests, header_tests, lacks_tables, root_tests, tests, Broken}
+use Rattle.cil_base.specs.Refusals.{is_less, First, NoneBroken, Test, first_of}
+use Rattle.cil_base.proofs.RefusalLaws.{Rises, not_less, first_is_first}
+use Rattle.cli_heaps.specs.Root.{Stream, stream_count, first_header, name_at, name_width, is_whole_header, header_end, header_at, stream_at}
+use Rattle.cli_heaps.specs.RootRules.{cut_field, is_signed, root_cut, header_cut, stream_tests, cut_tests, header_tests, root_tests, tests, Broken}
 
 -- ---- first_of, list by list
 
@@ -35,7 +34,7 @@ tests_step meta a at left end s pos e =
     ap (header_tests meta a at) (sym n) ∙ go (is_whole_header meta at) e
   where
     go : (b : Bool) → cond {A = Option (Stream × ℕ)} b (Some (stream_at meta at, header_end meta at)) None ≡ Some (s, end)
-      → cond b (stream_tests meta a (stream_at meta at) ++ header_tests meta a (header_end meta at) (left - 1)) (cut_tests a (header_cut meta at)) ≡ stream_tests meta a s ++ header_tests meta a end (left - 1)
+        → cond b (stream_tests meta a (stream_at meta at) ++ header_tests meta a (header_end meta at) (left - 1)) (cut_tests a (header_cut meta at)) ≡ stream_tests meta a s ++ header_tests meta a end (left - 1)
     go true h =
         let same : (stream_at meta at, header_end meta at) ≡ (s, end) = cc in
         ap₂ (λ (x : Stream) (y : ℕ). stream_tests meta a x ++ header_tests meta a y (left - 1)) (ap (λ (p : Stream × ℕ). p.0) same) (ap (λ (p : Stream × ℕ). p.1) same)
@@ -47,7 +46,7 @@ tests_cut meta a at left pos e =
     ap (header_tests meta a at) (sym n) ∙ go (is_whole_header meta at) e
   where
     go : (b : Bool) → cond {A = Option (Stream × ℕ)} b (Some (stream_at meta at, header_end meta at)) None ≡ None
-      → cond b (stream_tests meta a (stream_at meta at) ++ header_tests meta a (header_end meta at) (left - 1)) (cut_tests a (header_cut meta at)) ≡ cut_tests a (header_cut meta at)
+        → cond b (stream_tests meta a (stream_at meta at) ++ header_tests meta a (header_end meta at) (left - 1)) (cut_tests a (header_cut meta at)) ≡ cut_tests a (header_cut meta at)
     go true h = absurd cc
     go false h = refl
 
@@ -90,6 +89,7 @@ headers_rise meta a p m at (suc n) lt = go (is_whole_header meta at) (headers_ri
   where
     cuts : (q : ℕ) → header_cut meta at ≡ Some q → p < q
     cuts q e = let le : at ≤ q = cut_behind (length meta) at q (4 ∷ 4 ∷ name_width (length (name_at meta (at + 8))) ∷ []) e in omega arith
+
     go : (b : Bool) → Rises (a ∷ 0 ∷ 0 ∷ at ∷ 8 ∷ []) (header_tests meta a (header_end meta at) n) → Rises (a ∷ 0 ∷ 0 ∷ p ∷ m ∷ []) (cond b (stream_tests meta a (stream_at meta at) ++ header_tests meta a (header_end meta at) n) (cut_tests a (header_cut meta at)))
     go true rest = (step a at p 6 m (omega arith) (λ e. absurd (omega (arith, e, lt))), (step a at at 7 6 (omega arith) (λ e. omega arith), (step a at at 8 7 (omega arith) (λ e. omega arith), rest)))
     go false rest = cut_rises a p m (header_cut meta at) cuts
@@ -100,6 +100,7 @@ tests_rise meta a = (refl, signed (is_signed meta))
     whole : (o : Option ℕ) → Rises (a ∷ 0 ∷ 0 ∷ 0 ∷ 6 ∷ []) (root_tests meta a o)
     whole (Some at) = (step a at 0 6 6 (omega arith) (λ e. omega arith), tt)
     whole None = (step a 0 0 7 6 (omega arith) (λ e. omega arith), headers_rise meta a 0 7 (first_header meta) (stream_count meta) (omega arith))
+
     signed : (b : Bool) → Rises (a ∷ 0 ∷ 0 ∷ 0 ∷ 6 ∷ []) (cond b (root_tests meta a (root_cut meta)) [])
     signed true = whole (root_cut meta)
     signed false = tt

@@ -1,8 +1,8 @@
 -- Stream headers, one behind the other.
-use Rattle.std.proofs.Common.{◌≡◌, ℕ, zero, suc, ◌+◌, ◌-◌, ◌≤◌, ◌<◌, leb, Bool, true, false, cond, List, [], ◌∷◌, ◌++◌, length, Option, Some, None, refl, sym, ap, ap₂, subst, ◌∙◌, arith, append_assoc}
+use Rattle.std.proofs.Common.{◌≡◌, ℕ, suc, ◌-◌, ◌≤◌, ◌<◌, leb, Bool, true, false, cond, List, [], ◌∷◌, length, Option, Some, None, refl, sym, ap, ap₂, subst, ◌∙◌, arith}
 use Rattle.std.specs.Prelude.{find}
 use Rattle.std.proofs.lemmas.Bool.{leb-true, lt-leb}
-use Rattle.cli_heaps.specs.Root.{Stream, is_whole_header, header_end, header_at, stream_at, streams_from, is_named}
+use Rattle.cli_heaps.specs.Root.{Stream, is_whole_header, header_end, header_at, stream_at, streams_from}
 
 -- a header that is whole, and what is behind it
 pub record Begins (meta : List ℕ) (at left end : ℕ) (s : Stream) : Type 0 where

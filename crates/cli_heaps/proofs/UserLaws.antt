@@ -1,5 +1,5 @@
 -- Entries of the stream of user strings, one after another.
-use Rattle.std.proofs.Common.{◌≡◌, ◌≢◌, ℕ, zero, suc, ◌+◌, ◌-◌, ◌*◌, ◌≤◌, ◌<◌, ltb, leb, eqb, Bool, true, false, cond, ◌&&◌, List, [], ◌∷◌, length, take, drop, get_or, drop-cons, Option, Some, None, refl, sym, ap, subst, ◌∙◌, arith}
+use Rattle.std.proofs.Common.{◌≡◌, ℕ, zero, suc, ◌+◌, ◌-◌, ◌≤◌, ◌<◌, ltb, leb, Bool, true, false, cond, ◌&&◌, List, [], ◌∷◌, length, drop, get_or, drop-cons, Some, None, refl, sym, ap, ◌∙◌, arith}
 use Rattle.std.proofs.lemmas.Bool.{le-leb}
 use Rattle.std.proofs.lemmas.List.{drop-drop, length-drop}
 use Rattle.cil_base.specs.Packed.{packed_front, packed_two, packed_four, packed_at}
@@ -16,11 +16,13 @@ width_positive (a ∷ rest) n width e = go (ltb a 0x80) (ltb a 0xC0) (ltb a 0xE0
     two : (bs : List ℕ) → packed_two a bs ≡ Some (n, width) → 1 ≤ width
     two [] h = absurd cc
     two (b ∷ bs) h = let k : 2 ≡ width = width_of _ _ h in omega arith
+
     four : (bs : List ℕ) → packed_four a bs ≡ Some (n, width) → 1 ≤ width
     four [] h = absurd cc
     four (b ∷ []) h = absurd cc
     four (b ∷ (c ∷ [])) h = absurd cc
     four (b ∷ (c ∷ (d ∷ bs))) h = let k : 4 ≡ width = width_of _ _ h in omega arith
+
     go : (x y z : Bool) → cond x (Some (a, 1)) (cond y (packed_two a rest) (cond z (packed_four a rest) None)) ≡ Some (n, width) → 1 ≤ width
     go true y z h = let k : 1 ≡ width = width_of _ _ h in omega arith
     go false true z h = two rest h
@@ -59,6 +61,7 @@ users_step bytes at n width lt e =
   where
     fits : (k left end : ℕ) → k ≡ n + width - 1 → 1 ≤ width → at < end → left ≡ end - suc at → leb k left ≡ leb (at + n + width) end
     fits k left end h positive less l = grind arith
+
     within : (k : ℕ) → k ≡ n + width - 1 → 1 ≤ width → drop k (drop (suc at) bytes) ≡ drop (at + n + width) bytes → (leb k (length (drop (suc at) bytes)) && is_users 0 (drop k (drop (suc at) bytes))) ≡ (leb (at + n + width) (length bytes) && is_users 0 (drop (at + n + width) bytes))
     within k h positive behind =
         ap (λ (b : Bool). b && is_users 0 (drop k (drop (suc at) bytes))) (fits k (length (drop (suc at) bytes)) (length bytes) h positive lt (length-drop (suc at) bytes))

@@ -1,5 +1,5 @@
 -- Heaps that grow at their end (ECMA-335, II.24.2.3 and II.24.2.4).
-use Rattle.std.specs.Prelude.{◌≡◌, ℕ, ◌+◌, ◌*◌, ◌/◌, ◌%◌, ◌^◌, ◌≤◌, ◌<◌, Bool, ◌||◌, ◌&&◌, ◌==◌, nat_le, List, [], ◌∷◌, ◌++◌, length, Option, Some, None, MatchOption, IfSome, Vec, if◌then◌else◌}
+use Rattle.std.specs.Prelude.{◌≡◌, ℕ, ◌+◌, ◌/◌, ◌%◌, ◌≤◌, ◌<◌, Bool, ◌||◌, ◌&&◌, ◌==◌, nat_le, List, [], ◌∷◌, ◌++◌, length, Option, Some, None, MatchOption, IfSome, Vec, if◌then◌else◌}
 use Rattle.std.specs.List.{flat_map, list_any}
 use Rattle.std.specs.Cmp.Lexicographic.{pointwise}
 use Rattle.std.specs.Map.{lookup}
@@ -38,7 +38,7 @@ appended g content entry = record { base = g.base; added = g.added ++ (front g +
 -- contents that were appended before keep their place, and nothing is added; others are appended as this entry
 abbrev pub Appends : Growth → List ℕ → List ℕ → ℕ → ℕ → Growth → Type 0
 Appends g content entry limit at new =
-  MatchOption (place_of g content) ((at ≡ next_place g) × (new ≡ appended g content entry) × (next_place g + length entry ≤ limit)) (λ n. (at ≡ n) × (new ≡ g))
+    MatchOption (place_of g content) ((at ≡ next_place g) × (new ≡ appended g content entry) × (next_place g + length entry ≤ limit)) (λ n. (at ≡ n) × (new ≡ g))
 
 -- the entry isn't there yet, and would pass the limit
 abbrev pub IsFull : Growth → List ℕ → List ℕ → ℕ → Type 0

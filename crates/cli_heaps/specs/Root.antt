@@ -1,5 +1,5 @@
 -- The metadata root (ECMA-335, II.24.2.1) and its stream headers (II.24.2.2).
-use Rattle.std.specs.Prelude.{◌≡◌, ℕ, zero, suc, ◌+◌, ◌*◌, ◌/◌, Bool, ◌==◌, nat_le, List, [], ◌∷◌, length, take, drop, Option, Some, None, find, codes, if◌then◌else◌}
+use Rattle.std.specs.Prelude.{ℕ, zero, suc, ◌+◌, ◌*◌, ◌/◌, Bool, ◌==◌, nat_le, List, [], ◌∷◌, length, take, drop, Option, Some, None, find, codes, if◌then◌else◌}
 use Rattle.std.specs.List.{before_first}
 use Rattle.std.specs.Cmp.Lexicographic.{pointwise}
 use Rattle.cil_base.specs.Numbers.{num}

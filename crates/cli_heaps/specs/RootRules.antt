@@ -1,5 +1,5 @@
 -- The rules on the metadata root and its streams, each with its place: an offset in the metadata.
-use Rattle.std.specs.Prelude.{◌≡◌, ℕ, zero, suc, ◌+◌, ◌*◌, ◌%◌, ◌-◌, Bool, true, false, not, ◌||◌, ◌&&◌, ◌==◌, nat_lt, nat_le, List, [], ◌∷◌, ◌++◌, length, drop, Option, Some, None, is_some, codes, count_ones, if◌then◌else◌}
+use Rattle.std.specs.Prelude.{ℕ, zero, suc, ◌+◌, ◌*◌, ◌%◌, ◌-◌, Bool, true, false, not, ◌||◌, ◌&&◌, ◌==◌, nat_lt, nat_le, List, [], ◌∷◌, ◌++◌, length, drop, Option, Some, None, is_some, codes, count_ones, if◌then◌else◌}
 use Rattle.std.specs.List.{list_any}
 use Rattle.cil_base.specs.declared.rule.Rule.{Rule}
 use Rattle.cil_base.specs.declared.rule.Rule.TheVariants.{M1, M2, M3}
@@ -51,9 +51,9 @@ is_users (suc left) (b ∷ rest) = is_users left rest
 -- the stream passes the metadata; or the tables' stream is too short for its header and counts; or the user strings aren't whole
 abbrev pub is_cut_stream : List ℕ → Stream → Bool
 is_cut_stream meta s =
-  nat_lt (length meta) (s.offset + s.size)
-  || (is_named (codes "#~") s && nat_lt (length (stream_bytes meta s)) (24 + 4 * count_ones (num (stream_bytes meta s) 8 8)))
-  || (is_named (codes "#US") s && not (is_users 0 (drop 1 (stream_bytes meta s))))
+    nat_lt (length meta) (s.offset + s.size)
+    || (is_named (codes "#~") s && nat_lt (length (stream_bytes meta s)) (24 + 4 * count_ones (num (stream_bytes meta s) 8 8)))
+    || (is_named (codes "#US") s && not (is_users 0 (drop 1 (stream_bytes meta s))))
 
 -- the streams that stand at most once
 abbrev pub is_known : Stream → Bool
@@ -69,9 +69,9 @@ is_repeated meta s = is_known s && not (is_header_of s (first_named meta s.name)
 
 abbrev pub stream_tests : List ℕ → ℕ → Stream → List Test
 stream_tests meta assembly s =
-  test M1 assembly s.header (is_cut_stream meta s) ∷
-  test M2 assembly s.header (is_repeated meta s) ∷
-  test M3 assembly s.header (is_named (codes "#-") s) ∷ []
+    test M1 assembly s.header (is_cut_stream meta s) ∷
+    test M2 assembly s.header (is_repeated meta s) ∷
+    test M3 assembly s.header (is_named (codes "#-") s) ∷ []
 
 abbrev pub cut_tests : ℕ → Option ℕ → List Test
 cut_tests assembly None = []
@@ -81,9 +81,9 @@ cut_tests assembly (Some at) = test M1 assembly at true ∷ []
 abbrev pub header_tests : List ℕ → ℕ → ℕ → ℕ → List Test
 header_tests meta assembly at zero = []
 header_tests meta assembly at (suc n) =
-  if is_whole_header meta at
-  then stream_tests meta assembly (stream_at meta at) ++ header_tests meta assembly (header_end meta at) n
-  else cut_tests assembly (header_cut meta at)
+    if is_whole_header meta at
+    then stream_tests meta assembly (stream_at meta at) ++ header_tests meta assembly (header_end meta at) n
+    else cut_tests assembly (header_cut meta at)
 
 -- ---- the root
 

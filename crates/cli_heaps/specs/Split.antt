@@ -1,5 +1,5 @@
 -- What a reader of the heaps keeps: slices of the metadata, found once.
-use Rattle.std.specs.Prelude.{◌≡◌, ℕ, ◌<◌, ◌^◌, Bool, ◌||◌, ◌==◌, nat_lt, List, length, is_some}
+use Rattle.std.specs.Prelude.{◌≡◌, ℕ, ◌<◌, ◌^◌, ◌||◌, ◌==◌, nat_lt, List, length, is_some}
 use Rattle.cil_base.specs.Refusals.{NoneBroken}
 use Rattle.cli_heaps.specs.Root as root
 use Rattle.cli_heaps.specs.RootRules.{Broken}

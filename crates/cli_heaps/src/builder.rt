@@ -85,7 +85,12 @@ fn append_ended(grown: &mut Grown, alloc: Global, content: &[u8], limit: u32) ->
 }
 
 /// Appends a length and the bytes that it counts.
-fn append_counted(grown: &mut Grown, alloc: Global, content: &[u8], limit: u32) -> Result<u32, Fault>
+fn append_counted(
+    grown: &mut Grown,
+    alloc: Global,
+    content: &[u8],
+    limit: u32,
+) -> Result<u32, Fault>
     requires { limit < 2 ^ 29 }
     ensures ok { IfOk result (λ at. Appends grown.old content.now (blob_entry content.now) limit at grown.new) }
     ensures again { (at : ℕ) → place_of grown.old content.now ≡ Some at → result ≡ Ok at }

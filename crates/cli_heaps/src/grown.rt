@@ -45,7 +45,13 @@ fn front_of(len: usize) -> &'static [u8]
     if len == 0 { &[0] } else { &[] }
 }
 
-fn joined(alloc: Global, front: &[u8], head: &[u8], content: &[u8], tail: &[u8]) -> Result<Vec<u8>, AllocError>
+fn joined(
+    alloc: Global,
+    front: &[u8],
+    head: &[u8],
+    content: &[u8],
+    tail: &[u8],
+) -> Result<Vec<u8>, AllocError>
     ensures { IfOk result (λ v. v.items ≡ front.now ++ (head.now ++ content.now ++ tail.now)) }
 {
     let mut bytes = Vec::new(alloc);
@@ -82,7 +88,14 @@ impl Grown {
     }
 
     /// Appends the entry `head content tail`. A refusal is L5, where the heap would pass its limit.
-    pub fn add(&mut self, alloc: Global, head: &[u8], content: &[u8], tail: &[u8], limit: u32) -> Result<u32, Fault>
+    pub fn add(
+        &mut self,
+        alloc: Global,
+        head: &[u8],
+        content: &[u8],
+        tail: &[u8],
+        limit: u32,
+    ) -> Result<u32, Fault>
         requires absent { place_of self.old content.now ≡ None }
         requires small { limit < 2 ^ 31 }
         ensures ok { IfOk result (λ at. (at ≡ next_place self.old) × (self.new ≡ appended self.old content.now (head.now ++ content.now ++ tail.now)) × (next_place self.old + length (head.now ++ content.now ++ tail.now) ≤ limit)) }

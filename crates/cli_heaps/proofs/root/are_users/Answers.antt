@@ -1,7 +1,7 @@
-use Rattle.std.proofs.Common.{◌≡◌, ◌∙◌, sym, ap, refl, ℕ, ◌+◌, ◌<◌, ◌≤◌, arith, length, drop, Some, Bool, true, false, leb, ◌&&◌}
+use Rattle.std.proofs.Common.{◌≡◌, ◌∙◌, sym, ap, refl, ◌+◌, arith, length, Some, Bool, true, false, leb, ◌&&◌}
 use Rattle.std.proofs.lemmas.Bool.{lt-leb}
 use Rattle.cil_base.specs.Packed.{packed_at}
-use Rattle.cli_heaps.specs.RootRules.{is_users, is_user_length}
+use Rattle.cli_heaps.specs.RootRules.{is_user_length}
 use Rattle.cli_heaps.proofs.UserLaws.{users_refused, users_go_on, users_cut}
 use Rattle.cli_heaps.proofs.root.are_users.Goals as goal
 use Rattle.cli_heaps.proofs.root.are_users.Goals.{then-not-is_user_length-via-then-not-is_user_length, then-not-is_user_length-via-else-not-is_user_length+then-next-bytes}

@@ -1,5 +1,5 @@
-use Rattle.std.proofs.Common.{◌≡◌, ◌∙◌, sym, ap, arith, ◌-◌, List}
-use Rattle.cil_base.specs.Refusals.{Test, first_of}
+use Rattle.std.proofs.Common.{◌∙◌, sym, ap, arith, ◌-◌}
+use Rattle.cil_base.specs.Refusals.{first_of}
 use Rattle.cli_heaps.specs.RootRules.{header_tests, stream_tests}
 use Rattle.cli_heaps.proofs.StreamLaws.{Begins, begins}
 use Rattle.cli_heaps.proofs.RootLaws.{tests_step, first_behind, first_before}
@@ -21,6 +21,6 @@ loop-left-preserved c =
     record {
       within = step.within;
       rest = sym (first_behind here rest (sym c.in_default-stream_fault.ensures))
-        ∙ sym (ap first_of (tests_step c.args.meta.now c.args.assembly c.loop-left.at c.loop-left.left c.in-Some.end c.in-Some.stream (omega arith) (sym c.in-Some.ensures)))
-        ∙ c.loop-left.invariant.rest;
+          ∙ sym (ap first_of (tests_step c.args.meta.now c.args.assembly c.loop-left.at c.loop-left.left c.in-Some.end c.in-Some.stream (omega arith) (sym c.in-Some.ensures)))
+          ∙ c.loop-left.invariant.rest;
     }

@@ -1,4 +1,4 @@
-use Rattle.std.proofs.Common.{◌≡◌, ◌∙◌, sym, ap, arith, ◌-◌, ◌++◌, ◌∷◌, [], List, append_assoc}
+use Rattle.std.proofs.Common.{◌∙◌, sym, ap, arith, ◌-◌, ◌++◌, ◌∷◌, [], List, append_assoc}
 use Rattle.cli_heaps.specs.Root.{Stream, streams_from}
 use Rattle.cli_heaps.proofs.StreamLaws.{Begins, begins}
 use Rattle.cli_heaps.proofs.streams.all_streams.Goals as goal

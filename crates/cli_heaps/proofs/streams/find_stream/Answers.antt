@@ -1,4 +1,4 @@
-use Rattle.std.proofs.Common.{◌∙◌, sym, ap, arith, ◌-◌}
+use Rattle.std.proofs.Common.{◌∙◌, sym, arith, ◌-◌}
 use Rattle.cli_heaps.specs.Root.{is_named, streams_from}
 use Rattle.cli_heaps.proofs.StreamLaws.{Begins, begins, find_passes}
 use Rattle.cli_heaps.proofs.streams.find_stream.Goals as goal

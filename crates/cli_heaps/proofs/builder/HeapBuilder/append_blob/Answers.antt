@@ -1,4 +1,4 @@
-use Rattle.std.proofs.Common.{◌^◌, ◌<◌, lit<}
+use Rattle.std.proofs.Common.{◌^◌, lit<}
 use Rattle.cli_heaps.proofs.GrowthLaws.{reads_blobs}
 use Rattle.cli_heaps.proofs.builder.HeapBuilder.append_blob.Goals as goal
 

@@ -1,6 +1,5 @@
-use Rattle.std.proofs.Common.{List, ℕ, ◌^◌}
-use Rattle.cli_heaps.specs.Entries.{string_at}
-use Rattle.cli_heaps.proofs.GrowthLaws.{Reads, reads_strings}
+use Rattle.std.proofs.Common.{◌^◌}
+use Rattle.cli_heaps.proofs.GrowthLaws.{reads_strings}
 use Rattle.cli_heaps.proofs.builder.HeapBuilder.append_string.Goals as goal
 
 pub invariant_of-self : goal.invariant_of-self
