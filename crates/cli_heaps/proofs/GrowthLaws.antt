@@ -1,0 +1,155 @@
+-- A heap that grows: look-ups of appended entries, and what is read.
+use Rattle.std.proofs.Common.{◌≡◌, ℕ, ◌+◌, ◌^◌, ◌≤◌, ◌<◌, eqb, Bool, true, false, cond, List, [], ◌∷◌, ◌++◌, length, Option, Some, None, IfSome, refl, sym, ap, ap₂, subst, ◌∙◌, arith, append_assoc, length-append, inl, inr, ◌⊎◌}
+use Rattle.std.specs.Prelude.{Vec, Result, Ok, Err, IfOk, OnErr, MatchOption}
+use Rattle.std.specs.List.{list_any}
+use Rattle.std.specs.Map.{lookup}
+use Rattle.std.specs.Cmp.Lexicographic.{pointwise, bytes_decides}
+use Rattle.std.specs.declared.alloc.Global.{Global}
+use Rattle.cil_base.specs.Packed.{packed_spelling}
+use Rattle.cil_base.specs.declared.refusal.Fault.{Fault}
+use Rattle.cli_heaps.specs.Root.{is_zero}
+use Rattle.cli_heaps.specs.Entries.{string_at, blob_at}
+use Rattle.cli_heaps.specs.Growth.{Growth, no_growth, place_of, grown_length, front, next_place, appended, Appends, ReadsAt, KeepsEntries, AllRead, string_entry, blob_entry, contents_of}
+use Rattle.cli_heaps.proofs.ReadLaws.{if_some, string_kept, blob_kept, string_added, blob_added}
+
+-- ---- the map
+
+pub contents_found : (content : List ℕ) (es : List (Vec ℕ Global × ℕ)) → lookup (λ k. pointwise eqb content k.items) es ≡ lookup (λ c. pointwise eqb content c) (contents_of es)
+contents_found content [] = refl
+contents_found content ((key, at) ∷ es) = ap (cond (pointwise eqb content key.items) (Some at)) (contents_found content es)
+
+pub contents-append : (es : List (Vec ℕ Global × ℕ)) (key : Vec ℕ Global) (at : ℕ) → contents_of (es ++ (key, at) ∷ []) ≡ contents_of es ++ (key.items, at) ∷ []
+contents-append [] key at = refl
+contents-append ((k, n) ∷ es) key at = ap (λ (l : List (List ℕ × ℕ)). (k.items, n) ∷ l) (contents-append es key at)
+
+-- what is found is found among the others, or it is the last
+found_cases : (test : List ℕ → Bool) (es : List (List ℕ × ℕ)) (content : List ℕ) (at n : ℕ) → lookup test (es ++ (content, at) ∷ []) ≡ Some n → (lookup test es ≡ Some n) ⊎ ((test content ≡ true) × (at ≡ n))
+found_cases test [] content at n e = go (test content) refl e
+  where
+    go : (b : Bool) → test content ≡ b → cond b (Some at) None ≡ Some n → (None ≡ Some n) ⊎ ((test content ≡ true) × (at ≡ n))
+    go true t h = let same : at ≡ n = cc in inr (t, same)
+    go false t h = inl h
+found_cases test (x ∷ es) content at n e = go (test x.0) (λ h. found_cases test es content at n h) e
+  where
+    go : (b : Bool) → (lookup test (es ++ (content, at) ∷ []) ≡ Some n → (lookup test es ≡ Some n) ⊎ ((test content ≡ true) × (at ≡ n)))
+        → cond b (Some x.1) (lookup test (es ++ (content, at) ∷ [])) ≡ Some n → (cond b (Some x.1) (lookup test es) ≡ Some n) ⊎ ((test content ≡ true) × (at ≡ n))
+    go true rest h = inl h
+    go false rest h = rest h
+
+-- ---- the record of a grown heap
+
+pub front_is : (g : Growth) (n : ℕ) (f : List ℕ) → n ≡ length g.added → f ≡ cond (eqb (g.base + n) 0) (0 ∷ []) [] → f ≡ front g
+front_is g n f e h = h ∙ ap (λ (k : ℕ). cond (eqb (g.base + k) 0) (0 ∷ []) []) e
+
+pub place_is : (g : Growth) (n : ℕ) (f : List ℕ) → n ≡ length g.added → f ≡ front g → g.base + n + length f ≡ next_place g
+place_is g n f e h = ap₂ (λ (k : ℕ) (l : List ℕ). g.base + k + length l) e h
+
+pub appended_is : (g : Growth) (content entry added : List ℕ) (entries : List (List ℕ × ℕ)) → added ≡ g.added ++ (front g ++ entry) → entries ≡ g.entries ++ (content, next_place g) ∷ [] → ◌≡◌ {A = Growth} (record { base = g.base; added = added; entries = entries }) (appended g content entry)
+appended_is g content entry added entries e f = let make : List ℕ → List (List ℕ × ℕ) → Growth = λ a b. record { base = g.base; added = a; entries = b } in ap₂ make e f
+
+pub last_is : (es fs : List (List ℕ × ℕ)) (k l : List ℕ) (m n : ℕ) → es ≡ fs → k ≡ l → m ≡ n → es ++ (k, m) ∷ [] ≡ fs ++ (l, n) ∷ []
+last_is es fs k l m n e f h = ap (λ (x : List (List ℕ × ℕ)). x ++ (k, m) ∷ []) e ∙ ap₂ (λ (x : List ℕ) (y : ℕ). fs ++ (x, y) ∷ []) f h
+
+pub key_absent : (content : List ℕ) (key : Vec ℕ Global) (es : List (Vec ℕ Global × ℕ)) → key.items ≡ content → lookup (λ c. pointwise eqb content c) (contents_of es) ≡ None → lookup (λ k. pointwise eqb key.items k.items) es ≡ None
+key_absent content key es e none = contents_found key.items es ∙ ap (λ (l : List ℕ). lookup (λ c. pointwise eqb l c) (contents_of es)) e ∙ none
+
+-- ---- reading
+
+pub all_read : (read : List ℕ → ℕ → Option (List ℕ)) (g : Growth) (content entry : List ℕ) → AllRead read g → KeepsEntries read g (appended g content entry) → ReadsAt read (appended g content entry) (next_place g) content → AllRead read (appended g content entry)
+all_read read g content entry old kept fresh c n e = go (found_cases (λ k. pointwise eqb c k) g.entries content (next_place g) n e)
+  where
+    new : Growth
+    new = appended g content entry
+
+    go : (lookup (λ k. pointwise eqb c k) g.entries ≡ Some n) ⊎ ((pointwise eqb c content ≡ true) × (next_place g ≡ n)) → ReadsAt read new n c
+    go (inl there) heap long = some_is (read (heap ++ g.added) n) (λ x. read (heap ++ new.added) n ≡ Some x) c (old c n there heap long) (kept heap n)
+      where
+        some_is : (o : Option (List ℕ)) (P : List ℕ → Type 0) (x : List ℕ) → o ≡ Some x → IfSome o P → P x
+        some_is o P x f h = subst (λ (k : Option (List ℕ)). IfSome k P) f h
+    go (inr (same, at)) heap long =
+        let is : c ≡ content = (bytes_decides c content).0 same in
+        ap (read (heap ++ new.added)) (sym at) ∙ fresh heap long ∙ ap Some (sym is)
+
+abbrev pub Kept : (List ℕ → ℕ → Option (List ℕ)) → Type 0
+Kept read = (heap more : List ℕ) (at : ℕ) (s : List ℕ) → read heap at ≡ Some s → read (heap ++ more) at ≡ Some s
+
+pub entries_kept : (read : List ℕ → ℕ → Option (List ℕ)) → Kept read → (g : Growth) (content entry : List ℕ) → KeepsEntries read g (appended g content entry)
+entries_kept read kept g content entry heap at =
+    if_some (read (heap ++ g.added) at) (λ s. read (heap ++ (g.added ++ (front g ++ entry))) at ≡ Some s)
+    (λ s e. ap (λ (l : List ℕ). read l at) (sym (append_assoc heap g.added (front g ++ entry))) ∙ kept (heap ++ g.added) (front g ++ entry) at s e)
+
+pub entries_stay : (read : List ℕ → ℕ → Option (List ℕ)) (g : Growth) → KeepsEntries read g g
+entries_stay read g heap at = if_some (read (heap ++ g.added) at) (λ s. read (heap ++ g.added) at ≡ Some s) (λ s e. e)
+
+-- the next entry never stands at place 0
+pub next_positive : (g : Growth) → 0 < next_place g
+next_positive g = go (eqb (grown_length g) 0) refl
+  where
+    go : (b : Bool) → eqb (grown_length g) 0 ≡ b → 0 < grown_length g + length {A = ℕ} (cond b (0 ∷ []) [])
+    go true e = omega arith
+    go false e = positive (grown_length g) e
+      where
+        positive : (n : ℕ) → eqb n 0 ≡ false → 0 < n + 0
+        positive n f = grind arith
+
+-- the whole heap in front of the entry
+before : Growth → List ℕ → List ℕ
+before g heap = heap ++ (g.added ++ front g)
+
+before_length : (g : Growth) (heap : List ℕ) → length heap ≡ g.base → length (before g heap) ≡ next_place g
+unfolding before
+before_length g heap long = omega (arith, length-append heap (g.added ++ front g), length-append g.added (front g), long)
+
+before_entry : (g : Growth) (heap entry : List ℕ) → heap ++ (g.added ++ (front g ++ entry)) ≡ before g heap ++ entry
+unfolding before
+before_entry g heap entry = ap (λ (l : List ℕ). heap ++ l) (sym (append_assoc g.added (front g) entry)) ∙ sym (append_assoc heap (g.added ++ front g) entry)
+
+pub fresh_string : (g : Growth) (s : List ℕ) → list_any is_zero s ≡ false → ReadsAt string_at (appended g s (string_entry s)) (next_place g) s
+fresh_string g s none heap long =
+    let n : length (before g heap) ≡ next_place g = before_length g heap long in
+    let pos : 0 < length (before g heap) = omega (arith, n, next_positive g) in
+    ap (λ (l : List ℕ). string_at l (next_place g)) (before_entry g heap (string_entry s)) ∙ ap (string_at (before g heap ++ string_entry s)) (sym n) ∙ string_added (before g heap) s pos none
+
+pub fresh_blob : (g : Growth) (b : List ℕ) → length b < 2 ^ 29 → ReadsAt blob_at (appended g b (blob_entry b)) (next_place g) b
+fresh_blob g b small heap long =
+    let n : length (before g heap) ≡ next_place g = before_length g heap long in
+    let pos : 0 < length (before g heap) = omega (arith, n, next_positive g) in
+    ap (λ (l : List ℕ). blob_at l (next_place g)) (before_entry g heap (blob_entry b)) ∙ ap (blob_at (before g heap ++ blob_entry b)) (sym n) ∙ blob_added (before g heap) b pos small
+
+pub none_read : (read : List ℕ → ℕ → Option (List ℕ)) (base : ℕ) → AllRead read (no_growth base)
+none_read read base content at e = absurd cc
+
+-- ---- after one append
+
+pub record Reads (read : List ℕ → ℕ → Option (List ℕ)) (g new : Growth) (content : List ℕ) (r : Result ℕ Fault) : Type 0 where
+  pub all : AllRead read new
+  pub kept : KeepsEntries read g new
+  pub back : IfOk r (λ at. ReadsAt read new at content)
+
+pub reads_after : (read : List ℕ → ℕ → Option (List ℕ)) → Kept read → (g new : Growth) (content entry : List ℕ) (limit : ℕ) (r : Result ℕ Fault) → IfOk r (λ at. Appends g content entry limit at new) → OnErr r (new ≡ g) → AllRead read g
+    → (next_place g + length entry ≤ limit → ReadsAt read (appended g content entry) (next_place g) content) → Reads read g new content r
+reads_after read stays g new content entry limit (Err e) ok err old fresh =
+    record { all = subst (AllRead read) (sym err) old; kept = subst (KeepsEntries read g) (sym err) (entries_stay read g); back = tt }
+reads_after read stays g new content entry limit (Ok at) ok err old fresh = go (place_of g content) refl ok
+  where
+    go : (o : Option ℕ) → place_of g content ≡ o → MatchOption o ((at ≡ next_place g) × (new ≡ appended g content entry) × (next_place g + length entry ≤ limit)) (λ n. (at ≡ n) × (new ≡ g)) → Reads read g new content (Ok at)
+    go None e m =
+        let kept = entries_kept read stays g content entry in
+        let here = fresh m.2 in
+        record {
+          all = subst (AllRead read) (sym m.1) (all_read read g content entry old kept here);
+          kept = subst (KeepsEntries read g) (sym m.1) kept;
+          back = subst (λ (n : ℕ). ReadsAt read new n content) (sym m.0) (subst (λ (x : Growth). ReadsAt read x (next_place g) content) (sym m.1) here);
+        }
+    go (Some n) e m =
+        record {
+          all = subst (AllRead read) (sym m.1) old;
+          kept = subst (KeepsEntries read g) (sym m.1) (entries_stay read g);
+          back = subst (λ (k : ℕ). ReadsAt read new k content) (sym m.0) (subst (λ (x : Growth). ReadsAt read x n content) (sym m.1) (old content n e));
+        }
+
+pub reads_strings : (g new : Growth) (s : List ℕ) (limit : ℕ) (r : Result ℕ Fault) → list_any is_zero s ≡ false → IfOk r (λ at. Appends g s (string_entry s) limit at new) → OnErr r (new ≡ g) → AllRead string_at g → Reads string_at g new s r
+reads_strings g new s limit r none ok err old = reads_after string_at string_kept g new s (string_entry s) limit r ok err old (λ le. fresh_string g s none)
+
+pub reads_blobs : (g new : Growth) (b : List ℕ) (limit : ℕ) (r : Result ℕ Fault) → limit < 2 ^ 29 → IfOk r (λ at. Appends g b (blob_entry b) limit at new) → OnErr r (new ≡ g) → AllRead blob_at g → Reads blob_at g new b r
+reads_blobs g new b limit r small ok err old = reads_after blob_at blob_kept g new b (blob_entry b) limit r ok err old (λ le. fresh_blob g b (omega (arith, length-append (packed_spelling (length b)) b, le)))

@@ -1,0 +1,5 @@
+pub mod Root
+pub mod RootRules
+pub mod Entries
+pub mod Split
+pub mod Growth
