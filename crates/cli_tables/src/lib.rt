@@ -1,0 +1,6 @@
+//! The tables of metadata (ECMA-335, II.22), each kept as its columns.
+#![tactic(auto)]
+
+mod schema;
+
+pub use schema::{CodedIndex, Column, TABLE_COUNT, columns};
