@@ -1,1 +1,2 @@
 pub mod SchemaLaws
+pub mod StreamLaws

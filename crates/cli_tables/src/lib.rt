@@ -2,5 +2,7 @@
 #![tactic(auto)]
 
 mod schema;
+mod sizes;
 
 pub use schema::{CodedIndex, Column, TABLE_COUNT, columns};
+pub use sizes::Sizes;
