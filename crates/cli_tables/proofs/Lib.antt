@@ -1,2 +1,3 @@
 pub mod SchemaLaws
 pub mod StreamLaws
+pub mod LayoutLaws

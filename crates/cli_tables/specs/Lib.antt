@@ -1,2 +1,4 @@
 pub mod Schema
 pub mod Stream
+pub mod Tables
+pub mod Layout

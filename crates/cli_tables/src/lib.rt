@@ -3,6 +3,8 @@
 
 mod schema;
 mod sizes;
+mod table;
 
 pub use schema::{CodedIndex, Column, TABLE_COUNT, columns};
 pub use sizes::Sizes;
+pub use table::Table;

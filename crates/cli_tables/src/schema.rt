@@ -149,7 +149,8 @@ static TYPE_OR_METHOD_DEF: [Option<u8>; 2] = [Some(0x02), Some(0x06)];
 /// The columns of a table; none where the table is not read.
 #[tactic(auto, unfolding(crate::specs::Schema::the_tables))]
 pub fn columns(table: u8) -> &'static [Column]
-    ensures { result.now ≡ columns_of table }
+    ensures columns { result.now ≡ columns_of table }
+    ensures few { length result.now ≤ 16 }
 {
     let table = table as usize;
     if table < TABLE_COUNT { TABLES[table] } else { &[] }

@@ -79,6 +79,7 @@ pub fn heap_sizes_of(stream: &[u8]) -> u8
 
 fn index_bytes(is_short: bool) -> u8
     ensures value { result ≡ index_width is_short }
+    ensures small { result ≤ 4 }
     ensures known { IsTrue (is_width result) }
 {
     if is_short { 2 } else { 4 }
@@ -120,6 +121,7 @@ impl Sizes {
     /// How many bytes a column takes.
     pub fn width(&self, column: Column) -> u8
         ensures value { result ≡ width_of self.now column }
+        ensures small { result ≤ 4 }
         ensures known { IsTrue (is_width result) }
     {
         match column {
@@ -137,7 +139,8 @@ impl Sizes {
 
     /// How many bytes a row takes.
     pub fn row_width(&self, table: u8) -> usize
-        ensures { result ≡ row_width self.now table }
+        ensures width { result ≡ row_width self.now table }
+        ensures small { result ≤ 64 }
     {
         let mut total = 0usize;
         for column in columns(table) {
