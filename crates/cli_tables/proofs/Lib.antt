@@ -1,3 +1,4 @@
 pub mod SchemaLaws
 pub mod StreamLaws
 pub mod LayoutLaws
+pub mod RuleLaws

@@ -2,3 +2,5 @@ pub mod Schema
 pub mod Stream
 pub mod Tables
 pub mod Layout
+pub mod TableRules
+pub mod CellRules

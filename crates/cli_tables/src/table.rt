@@ -1,5 +1,5 @@
 // One table, as its columns.
-ghost use Rattle.std.specs.Prelude.{◌≡◌, ◌+◌, ◌*◌, ◌<◌, ◌≤◌, ◌^◌, length, IsTrue, IfOk, ℕ};
+ghost use Rattle.std.specs.Prelude.{◌≡◌, ◌+◌, ◌*◌, ◌<◌, ◌≤◌, ◌^◌, length, IsTrue, IfOk, ℕ, [], get_or};
 ghost use Rattle.cil_base.specs.Numbers.{num};
 ghost use Rattle.cli_tables.specs.Schema.{columns_of};
 ghost use Rattle.cli_tables.specs.Stream.{is_width, strided, row_width, width_of, offset_of};
@@ -84,5 +84,15 @@ impl Table {
             at += usize::from(width);
         }
         Ok(Table { columns: read })
+    }
+
+    /// The cells of a column; none where there is no such column.
+    pub fn column(&self, column: usize) -> &[u32]
+        ensures { result.now ≡ get_or self.now column [] }
+    {
+        match self.columns.get(column) {
+            None => &[],
+            Some(cells) => cells.as_slice(),
+        }
     }
 }
