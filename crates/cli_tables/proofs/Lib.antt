@@ -2,3 +2,5 @@ pub mod SchemaLaws
 pub mod StreamLaws
 pub mod LayoutLaws
 pub mod RuleLaws
+pub mod CellLaws
+pub mod BrokenLaws

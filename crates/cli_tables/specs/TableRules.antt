@@ -86,3 +86,8 @@ pub record Broken (bytes : List ℕ) (assembly : ℕ) (r : Refusal) : Type 0 whe
   pub assembly_is : r.assembly ≡ assembly
   pub place : IsAtCell bytes r
   pub breaks : IsCut bytes r ⊎ (NamesNothing bytes r ⊎ Falls bytes r)
+
+-- the same in one table
+pub record BrokenIn (bytes : List ℕ) (assembly table : ℕ) (r : Refusal) : Type 0 where
+  pub table_is : r.table ≡ table
+  pub broken : Broken bytes assembly r
