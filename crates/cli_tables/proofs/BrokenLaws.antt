@@ -95,3 +95,122 @@ shown_at bytes a start rows r place within broken row = go broken.breaks
     go (inr (inr falls)) =
         let e = early falls.2 in
         shown_falls (sizes_of bytes) (kind_of r.table r.at) (before (get_or (table_in bytes (sizes_of bytes) start r.table rows) r.at []) (r.row - 1)) (get_or (get_or (table_in bytes (sizes_of bytes) start r.table rows) r.at []) (r.row - 1) 0) r.rule falls.1 (omega (arith, value, e, falls.3)) falls.0
+
+-- the same for a table by another name
+shown_in : (bytes : List ℕ) (a start rows t : ℕ) (r : Refusal) → start ≡ table_start bytes t → start + rows * row_width (sizes_of bytes) t ≤ length bytes
+  → BrokenIn bytes a t r → r.row ≤ rows → Shown (rule_at (sizes_of bytes) t (table_in bytes (sizes_of bytes) start t rows) (r.row - 1) r.at) r.rule
+shown_in bytes a start rows t r place within h row =
+    subst (λ (u : ℕ). start ≡ table_start bytes u → start + rows * row_width (sizes_of bytes) u ≤ length bytes → Shown (rule_at (sizes_of bytes) u (table_in bytes (sizes_of bytes) start u rows) (r.row - 1) r.at) r.rule)
+      h.table_is (λ p w. shown_at bytes a start rows r p w h.broken row) place within
+
+-- what the first rule of a cell says
+told : (s : Sizes) (column : Column) (b v : ℕ) (rule : Rule) → cell_rule s column b v ≡ Some rule
+  → ((rule ≡ naming_rule column) × (names_nothing s column v ≡ true)) ⊎ ((rule ≡ M6) × (is_list column ≡ true) × (v < b))
+told s column b v rule e = go (names_nothing s column v) refl
+  where
+    later : (t : Bool) → (is_list column && ltb v b) ≡ t → cond t (Some M6) None ≡ Some rule → ((rule ≡ naming_rule column) × (names_nothing s column v ≡ true)) ⊎ ((rule ≡ M6) × (is_list column ≡ true) × (v < b))
+    later true f g = let p = and_parts (is_list column) (ltb v b) f in inr (cc, p.0, ltb-true v b p.1)
+    later false f g = absurd cc
+    go : (t : Bool) → names_nothing s column v ≡ t → ((rule ≡ naming_rule column) × (names_nothing s column v ≡ true)) ⊎ ((rule ≡ M6) × (is_list column ≡ true) × (v < b))
+    go true f = let g : Some (naming_rule column) ≡ Some rule = ap (λ (t : Bool). cond t (Some (naming_rule column)) (cond (is_list column && ltb v b) (Some M6) None)) (sym f) ∙ e in inl (cc, f)
+    go false f = later (is_list column && ltb v b) refl (ap (λ (t : Bool). cond t (Some (naming_rule column)) (cond (is_list column && ltb v b) (Some M6) None)) (sym f) ∙ e)
+
+-- at the first row there is none before
+second : (cells : List ℕ) (k v : ℕ) → v < before cells k → 0 < k
+second cells zero v lt = absurd (omega (arith, lt))
+second cells (suc k) v lt = omega arith
+
+breaks_at : (bytes : List ℕ) (start rows : ℕ) (r : Refusal) → start ≡ table_start bytes r.table → 1 ≤ r.row → r.row ≤ rows → r.at < length (columns_of r.table)
+  → rule_at (sizes_of bytes) r.table (table_in bytes (sizes_of bytes) start r.table rows) (r.row - 1) r.at ≡ Some r.rule
+  → IsCut bytes r ⊎ (NamesNothing bytes r ⊎ Falls bytes r)
+breaks_at bytes start rows r place above row at e = go (told (sizes_of bytes) (kind_of r.table r.at) (before (get_or (table_in bytes (sizes_of bytes) start r.table rows) r.at []) (r.row - 1)) (get_or (get_or (table_in bytes (sizes_of bytes) start r.table rows) r.at []) (r.row - 1) 0) r.rule e)
+  where
+    value : get_or (get_or (table_in bytes (sizes_of bytes) start r.table rows) r.at []) (r.row - 1) 0 ≡ cell bytes r.table r.row r.at
+    value = cell_read bytes start r.table rows r.at (r.row - 1) at (omega arith) place ∙ ap (λ (k : ℕ). cell bytes r.table k r.at) (omega arith)
+    early : 1 < r.row → before (get_or (table_in bytes (sizes_of bytes) start r.table rows) r.at []) (r.row - 1) ≡ cell bytes r.table (r.row - 1) r.at
+    early two =
+        ap (λ (t : Bool). cond t 0 (get_or (get_or (table_in bytes (sizes_of bytes) start r.table rows) r.at []) (r.row - 1 - 1) 0)) (ne_eqb (r.row - 1) 0 (λ z. absurd (omega (arith, z))))
+        ∙ cell_read bytes start r.table rows r.at (r.row - 1 - 1) at (omega arith) place ∙ ap (λ (k : ℕ). cell bytes r.table k r.at) (omega (arith, two))
+    go : ((r.rule ≡ naming_rule (kind_of r.table r.at)) × (names_nothing (sizes_of bytes) (kind_of r.table r.at) (get_or (get_or (table_in bytes (sizes_of bytes) start r.table rows) r.at []) (r.row - 1) 0) ≡ true))
+      ⊎ ((r.rule ≡ M6) × (is_list (kind_of r.table r.at) ≡ true) × (get_or (get_or (table_in bytes (sizes_of bytes) start r.table rows) r.at []) (r.row - 1) 0 < before (get_or (table_in bytes (sizes_of bytes) start r.table rows) r.at []) (r.row - 1)))
+      → IsCut bytes r ⊎ (NamesNothing bytes r ⊎ Falls bytes r)
+    go (inl n) = inr (inl (n.0, ap (names_nothing (sizes_of bytes) (kind_of r.table r.at)) (sym value) ∙ n.1))
+    go (inr f) =
+        let k = second (get_or (table_in bytes (sizes_of bytes) start r.table rows) r.at []) (r.row - 1) _ f.2 in
+        let two : 1 < r.row = omega (arith, k) in
+        let e2 = early two in
+        inr (inr (f.0, f.1, two, omega (arith, f.2, value, e2)))
+
+-- a refusal in the table is none before the one at a place where nothing before breaks a rule
+not_before : (bytes : List ℕ) (a t : ℕ) (q r : Refusal) → BrokenIn bytes a t q → r.assembly ≡ a → r.table ≡ t → r.row ≤ q.row → (q.row ≡ r.row → r.at ≤ q.at) → (q.row ≡ r.row → q.at ≡ r.at → rule_number r.rule ≤ rule_number q.rule) → is_less (key q) (key r) ≡ false
+not_before bytes a t q r h ra rt row at rule =
+    let qa : q.assembly ≡ a = h.broken.assembly_is in
+    let qt : q.table ≡ t = h.table_is in
+    not_less q.assembly r.assembly (q.table ∷ q.row ∷ q.at ∷ rule_number q.rule ∷ []) (r.table ∷ r.row ∷ r.at ∷ rule_number r.rule ∷ []) (omega arith) (λ e1.
+    not_less q.table r.table (q.row ∷ q.at ∷ rule_number q.rule ∷ []) (r.row ∷ r.at ∷ rule_number r.rule ∷ []) (omega arith) (λ e2.
+    not_less q.row r.row (q.at ∷ rule_number q.rule ∷ []) (r.at ∷ rule_number r.rule ∷ []) row (λ e3.
+    not_less q.at r.at (rule_number q.rule ∷ []) (rule_number r.rule ∷ []) (at e3) (λ e4.
+    not_less (rule_number q.rule) (rule_number r.rule) [] [] (rule e3 e4) (λ e5. refl)))))
+
+first_cell_at : (bytes : List ℕ) (a start rows : ℕ) (r : Refusal) → start ≡ table_start bytes r.table → start + rows * row_width (sizes_of bytes) r.table ≤ length bytes → rows ≤ rows_in bytes r.table
+  → IsFirstIn (sizes_of bytes) a r.table (table_in bytes (sizes_of bytes) start r.table rows) rows r → First (BrokenIn bytes a r.table) r
+first_cell_at bytes a start rows r place within many f =
+    record {
+      broken = record {
+        table_is = refl;
+        broken = record {
+          assembly_is = f.assembly_is;
+          place = (f.row_above, omega (arith, f.row_within), f.column_within);
+          breaks = breaks_at bytes start rows r place f.row_above f.row_within f.column_within f.breaks;
+        };
+      };
+      none_before = λ q h. not_before bytes a r.table q r h f.assembly_is refl (row q h) (at q h) (rule q h);
+    }
+  where
+    shown : (q : Refusal) (h : BrokenIn bytes a r.table q) → q.row ≤ rows → Shown (rule_at (sizes_of bytes) r.table (table_in bytes (sizes_of bytes) start r.table rows) (q.row - 1) q.at) q.rule
+    shown q h le = shown_in bytes a start rows r.table q place within h le
+    column : (q : Refusal) (h : BrokenIn bytes a r.table q) → q.at < length (columns_of r.table)
+    column q h = subst (λ (t : ℕ). q.at < length (columns_of t)) h.table_is h.broken.place.2
+    row : (q : Refusal) (h : BrokenIn bytes a r.table q) → r.row ≤ q.row
+    row q h = elim (cases_lt q.row r.row) [
+      | inl lt ↦
+        let above : 1 ≤ q.row = h.broken.place.0 in
+        let yes = shown q h (omega (arith, lt, f.row_within)) in
+        let no = f.before_clean (q.row - 1) (omega (arith, lt, above)) q.at (column q h) in
+        let clash : None ≡ Some yes.rule = sym no ∙ yes.shown in absurd cc
+      | inr le ↦ le
+    ]
+    same : (q : Refusal) → q.row ≡ r.row → (c : ℕ) → rule_at (sizes_of bytes) r.table (table_in bytes (sizes_of bytes) start r.table rows) (q.row - 1) c ≡ rule_at (sizes_of bytes) r.table (table_in bytes (sizes_of bytes) start r.table rows) (r.row - 1) c
+    same q e c = ap (λ (k : ℕ). rule_at (sizes_of bytes) r.table (table_in bytes (sizes_of bytes) start r.table rows) (k - 1) c) e
+    at : (q : Refusal) (h : BrokenIn bytes a r.table q) → q.row ≡ r.row → r.at ≤ q.at
+    at q h e = elim (cases_lt q.at r.at) [
+      | inl lt ↦
+        let yes = shown q h (omega (arith, e, f.row_within)) in
+        let no = f.row_clean q.at lt in
+        let clash : None ≡ Some yes.rule = sym no ∙ sym (same q e q.at) ∙ yes.shown in absurd cc
+      | inr le ↦ le
+    ]
+    rule : (q : Refusal) (h : BrokenIn bytes a r.table q) → q.row ≡ r.row → q.at ≡ r.at → rule_number r.rule ≤ rule_number q.rule
+    rule q h e d =
+        let yes = shown q h (omega (arith, e, f.row_within)) in
+        let both : Some r.rule ≡ Some yes.rule = sym f.breaks ∙ sym (same q e r.at) ∙ ap (λ (c : ℕ). rule_at (sizes_of bytes) r.table (table_in bytes (sizes_of bytes) start r.table rows) (q.row - 1) c) (sym d) ∙ yes.shown in
+        let one : r.rule ≡ yes.rule = cc in
+        let number : rule_number r.rule ≡ rule_number yes.rule = ap rule_number one in
+        omega (arith, number, yes.early)
+
+-- the first cell that breaks a rule gives the first refusal of the table
+pub first_cell : (bytes : List ℕ) (a t start rows : ℕ) (r : Refusal) → start ≡ table_start bytes t → start + rows * row_width (sizes_of bytes) t ≤ length bytes → rows ≤ rows_in bytes t
+  → IsFirstIn (sizes_of bytes) a t (table_in bytes (sizes_of bytes) start t rows) rows r → First (BrokenIn bytes a t) r
+first_cell bytes a t start rows r place within many f =
+    subst (λ (u : ℕ). start ≡ table_start bytes u → start + rows * row_width (sizes_of bytes) u ≤ length bytes → rows ≤ rows_in bytes u → IsFirstIn (sizes_of bytes) a u (table_in bytes (sizes_of bytes) start u rows) rows r → First (BrokenIn bytes a u) r)
+      f.table_is (λ p w m g. first_cell_at bytes a start rows r p w m g) place within many f
+
+-- no refusal of the table, where no cell breaks a rule and all rows lie in the stream
+pub none_in_table : (bytes : List ℕ) (a t start rows : ℕ) → start ≡ table_start bytes t → start + rows * row_width (sizes_of bytes) t ≤ length bytes → rows ≡ rows_in bytes t
+  → AreClean (sizes_of bytes) t (table_in bytes (sizes_of bytes) start t rows) rows → NoneBroken (BrokenIn bytes a t)
+none_in_table bytes a t start rows place within many clean q h =
+    let above : 1 ≤ q.row = h.broken.place.0 in
+    let in_rows : q.row ≤ rows_in bytes t = subst (λ (u : ℕ). q.row ≤ rows_in bytes u) h.table_is h.broken.place.1 in
+    let yes = shown_in bytes a start rows t q place within h (omega (arith, in_rows, many)) in
+    let no = clean (q.row - 1) (omega (arith, above, in_rows, many)) q.at (subst (λ (u : ℕ). q.at < length (columns_of u)) h.table_is h.broken.place.2) in
+    let clash : None ≡ Some yes.rule = sym no ∙ yes.shown in absurd cc
