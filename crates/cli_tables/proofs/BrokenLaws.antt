@@ -12,7 +12,9 @@ use Rattle.cli_tables.specs.declared.schema.Column.{Column}
 use Rattle.cli_tables.specs.declared.schema.Column.TheVariants.{U8, U16, U32, StringIndex, GuidIndex, BlobIndex, Row, FirstRow, Coded}
 use Rattle.cli_tables.specs.declared.sizes.Sizes.{Sizes}
 use Rattle.cli_tables.specs.Schema.{columns_of}
-use Rattle.cli_tables.specs.Stream.{kind_of, cell, sizes_of, row_width}
+use Rattle.cli_tables.specs.Stream.{kind_of, cell, sizes_of, row_width, width_of}
+use Rattle.std.specs.Prelude.{sum_by}
+use Rattle.std.proofs.lemmas.List.{nil_from_length}
 use Rattle.cli_tables.specs.Layout.{table_in, table_start, row_end}
 use Rattle.cli_tables.specs.Tables.{rows_in}
 use Rattle.cli_tables.specs.TableRules.{names_nothing, naming_rule, is_list, IsAtCell, IsCut, NamesNothing, Falls, Broken, BrokenIn}
@@ -214,3 +216,50 @@ none_in_table bytes a t start rows place within many clean q h =
     let yes = shown_in bytes a start rows t q place within h (omega (arith, in_rows, many)) in
     let no = clean (q.row - 1) (omega (arith, above, in_rows, many)) q.at (subst (λ (u : ℕ). q.at < length (columns_of u)) h.table_is h.broken.place.2) in
     let clash : None ≡ Some yes.rule = sym no ∙ yes.shown in absurd cc
+
+rule_late : (bytes : List ℕ) (r : Refusal) → IsCut bytes r ⊎ (NamesNothing bytes r ⊎ Falls bytes r) → 9 ≤ rule_number r.rule
+rule_late bytes r (inl cut) = let e : rule_number r.rule ≡ 9 = ap rule_number cut.0 in omega arith
+rule_late bytes r (inr (inl names)) =
+    let e : rule_number r.rule ≡ rule_number (naming_rule (kind_of r.table r.at)) = ap rule_number names.0 in
+    let late = naming_late (kind_of r.table r.at) in omega (arith, e, late)
+rule_late bytes r (inr (inr falls)) = let e : rule_number r.rule ≡ 11 = ap rule_number falls.0 in omega arith
+
+no_width : (s : Sizes) (t : ℕ) → length (columns_of t) ≡ 0 → row_width s t ≡ 0
+no_width s t e = ap (λ (ks : List Column). sum_by (width_of s) ks) (nil_from_length (columns_of t) e)
+
+-- the first refusal of a table whose other rows don't lie in the stream
+pub first_cut : (bytes : List ℕ) (a t start rows : ℕ) (r : Refusal) → start ≡ table_start bytes t → start + rows * row_width (sizes_of bytes) t ≤ length bytes → rows < rows_in bytes t
+  → length bytes < start + (rows + 1) * row_width (sizes_of bytes) t → AreClean (sizes_of bytes) t (table_in bytes (sizes_of bytes) start t rows) rows
+  → r ≡ record { rule = M4; assembly = a; table = t; row = rows + 1; at = 0 } → First (BrokenIn bytes a t) r
+first_cut bytes a t start rows r place within more past clean e = subst (First (BrokenIn bytes a t)) (sym e) first
+  where
+    cut : Refusal
+    cut = record { rule = M4; assembly = a; table = t; row = rows + 1; at = 0 }
+    some_columns : 0 < length (columns_of t)
+    some_columns = elim (cases_lt 0 (length (columns_of t))) [
+      | inl lt ↦ lt
+      | inr le ↦ let z : row_width (sizes_of bytes) t ≡ 0 = no_width (sizes_of bytes) t (omega arith) in
+        let p : (rows + 1) * row_width (sizes_of bytes) t ≡ (rows + 1) * 0 = ap (λ (w : ℕ). (rows + 1) * w) z in
+        absurd (omega (arith, p, past, within))
+    ]
+    row : (q : Refusal) (h : BrokenIn bytes a t q) → rows + 1 ≤ q.row
+    row q h = elim (cases_lt q.row (rows + 1)) [
+      | inl lt ↦
+        let above : 1 ≤ q.row = h.broken.place.0 in
+        let yes = shown_in bytes a start rows t q place within h (omega arith) in
+        let no = clean (q.row - 1) (omega (arith, above, lt)) q.at (subst (λ (u : ℕ). q.at < length (columns_of u)) h.table_is h.broken.place.2) in
+        let clash : None ≡ Some yes.rule = sym no ∙ yes.shown in absurd cc
+      | inr le ↦ le
+    ]
+    first : First (BrokenIn bytes a t) (record { rule = M4; assembly = a; table = t; row = rows + 1; at = 0 })
+    first = record {
+      broken = record {
+        table_is = refl;
+        broken = record {
+          assembly_is = refl;
+          place = (omega arith, omega (arith, more), some_columns);
+          breaks = inl (refl, refl, omega (arith, past, place));
+        };
+      };
+      none_before = λ q h. not_before bytes a t q (record { rule = M4; assembly = a; table = t; row = rows + 1; at = 0 }) h refl refl (row q h) (λ _. omega arith) (λ _ _. rule_late bytes q h.broken.breaks);
+    }

@@ -4,3 +4,4 @@ pub mod LayoutLaws
 pub mod RuleLaws
 pub mod CellLaws
 pub mod BrokenLaws
+pub mod ReadingLaws

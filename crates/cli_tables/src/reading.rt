@@ -1,0 +1,62 @@
+// The tables of a `#~` stream, read and tested one after another (ECMA-335, II.24.2.6).
+ghost use Rattle.std.specs.Prelude.{◌≡◌, ℕ, ◌+◌, ◌-◌, ◌*◌, ◌<◌, ◌≤◌, ◌^◌, length, IfOk, OnOk, MatchOption, map};
+ghost use Rattle.std.specs.List.{range_with_len};
+ghost use Rattle.cil_base.specs.Refusals.{First, NoneBroken, OnRefused, first_of};
+ghost use Rattle.cli_tables.specs.Stream.{sizes_of, rows_start};
+ghost use Rattle.cli_tables.specs.Layout.{table_start, row_end, whole_table, tables_in};
+ghost use Rattle.cli_tables.specs.Tables.{rows_in};
+ghost use Rattle.cli_tables.specs.TableRules.{Broken, BrokenIn};
+
+use crate::rules::first_in_table;
+use crate::sizes::Sizes;
+use crate::table::Table;
+use cil_base::{Fault, Refusal, Rule};
+use std::alloc::Global;
+
+/// How many of some rows fit in a space.
+fn whole_rows(space: usize, width: usize, count: u32) -> u32
+    ensures few { result ≤ count }
+    ensures fit { result * width ≤ space }
+    ensures most { result < count → space < (result + 1) * width }
+{
+    if width == 0 {
+        return count;
+    }
+    (count as usize).min(space / width) as u32
+}
+
+/// Reads and tests one table, whose rows begin at `start`.
+fn read_table(
+    alloc: Global,
+    stream: &[u8],
+    sizes: &Sizes,
+    assembly: u32,
+    table: u8,
+    start: usize,
+) -> Result<Table, Fault>
+    requires sizes { sizes.now ≡ sizes_of stream.now }
+    requires place { start ≡ table_start stream.now table }
+    requires near { start ≤ length stream.now }
+    requires short { length stream.now < 2 ^ 32 }
+    ensures ok { IfOk result (λ t. t ≡ whole_table stream.now table) }
+    ensures within { OnOk result (row_end stream.now table (rows_in stream.now table) ≤ length stream.now) }
+    ensures clean { OnOk result (NoneBroken (BrokenIn stream.now assembly table)) }
+    ensures refused { OnRefused result (First (BrokenIn stream.now assembly table)) }
+{
+    let count = sizes.count(table);
+    let rows = whole_rows(stream.len() - start, sizes.row_width(table), count);
+    let read = Table::read(alloc, stream, sizes, table, start, rows)?;
+    if let Some(refusal) = first_in_table(sizes, assembly, table, &read, rows) {
+        return Err(Fault::Refused(refusal));
+    }
+    if rows < count {
+        return Err(Fault::Refused(Refusal {
+            rule: Rule::M4,
+            assembly,
+            table,
+            row: rows + 1,
+            at: 0,
+        }));
+    }
+    Ok(read)
+}
