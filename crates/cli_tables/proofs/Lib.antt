@@ -5,3 +5,4 @@ pub mod RuleLaws
 pub mod CellLaws
 pub mod BrokenLaws
 pub mod ReadingLaws
+pub mod ShapeLaws

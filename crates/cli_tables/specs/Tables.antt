@@ -1,5 +1,5 @@
 -- Tables as contracts see them (ECMA-335, II.22): by rising number, each as its columns, each as the cells of its rows in order.
-use Rattle.std.specs.Prelude.{◌≡◌, ℕ, zero, suc, ◌+◌, ◌-◌, ◌*◌, ◌<◌, ◌≤◌, Bool, ◌&&◌, ◌==◌, nat_lt, nat_le, List, [], map, length, get_or, slice_get, Option, Some, None, if◌then◌else◌}
+use Rattle.std.specs.Prelude.{◌≡◌, ℕ, zero, suc, ◌+◌, ◌-◌, ◌*◌, ◌^◌, ◌<◌, ◌≤◌, Bool, ◌&&◌, ◌==◌, nat_lt, nat_le, List, [], map, length, get_or, slice_get, Option, Some, None, if◌then◌else◌}
 use Rattle.std.specs.List.{range_with_len}
 use Rattle.cli_tables.specs.Schema.{columns_of}
 use Rattle.cli_tables.specs.Stream.{sizes_of, count_of, cell}
@@ -24,6 +24,7 @@ HasCell tables table row column = (1 ≤ row) × (row ≤ rows_of tables table) 
 pub record IsShaped (tables : List (List (List ℕ))) : Type 0 where
   pub columns : (table : ℕ) → length (get_or tables table []) ≡ length (columns_of table)
   pub rows : (table column : ℕ) → column < length (columns_of table) → length (column_of tables table column) ≡ rows_of tables table
+  pub few : (table : ℕ) → rows_of tables table < 2 ^ 32
 
 -- ---- the tables that a `#~` stream holds
 

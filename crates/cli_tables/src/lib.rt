@@ -6,7 +6,8 @@ mod rules;
 mod schema;
 mod sizes;
 mod table;
+mod tables;
 
 pub use schema::{CodedIndex, Column, TABLE_COUNT, columns};
 pub use sizes::Sizes;
-pub use table::Table;
+pub use tables::Tables;

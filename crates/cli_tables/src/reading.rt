@@ -1,5 +1,5 @@
 // The tables of a `#~` stream, read and tested one after another (ECMA-335, II.24.2.6).
-ghost use Rattle.std.specs.Prelude.{◌≡◌, ℕ, ◌+◌, ◌-◌, ◌*◌, ◌<◌, ◌≤◌, ◌^◌, length, IfOk, OnOk, MatchOption, map};
+ghost use Rattle.std.specs.Prelude.{◌≡◌, ℕ, ◌+◌, ◌-◌, ◌*◌, ◌<◌, ◌≤◌, ◌^◌, length, IfOk, OnOk, MatchOption, map, ◌++◌, ◌∷◌, []};
 ghost use Rattle.std.specs.List.{range_with_len};
 ghost use Rattle.cil_base.specs.Refusals.{First, NoneBroken, OnRefused, first_of};
 ghost use Rattle.cli_tables.specs.Stream.{sizes_of, rows_start};
@@ -8,10 +8,10 @@ ghost use Rattle.cli_tables.specs.Tables.{rows_in};
 ghost use Rattle.cli_tables.specs.TableRules.{Broken, BrokenIn};
 
 use crate::rules::first_in_table;
-use crate::sizes::Sizes;
+use crate::sizes::{Sizes, rows_start_of};
 use crate::table::Table;
 use cil_base::{Fault, Refusal, Rule};
-use std::alloc::Global;
+use std::alloc::{AllocError, Global};
 
 /// How many of some rows fit in a space.
 fn whole_rows(space: usize, width: usize, count: u32) -> u32
@@ -59,4 +59,38 @@ fn read_table(
         }));
     }
     Ok(read)
+}
+
+fn push(tables: &mut Vec<Table>, table: Table) -> Result<(), AllocError>
+    ensures { OnOk result (tables.new.items ≡ tables.old.items ++ table ∷ []) }
+{
+    tables.push(table)?;
+    Ok(())
+}
+
+/// Reads and tests all tables of a stream.
+pub fn read_tables(
+    alloc: Global,
+    stream: &[u8],
+    sizes: &Sizes,
+    assembly: u32,
+) -> Result<Vec<Table>, Fault>
+    requires sizes { sizes.now ≡ sizes_of stream.now }
+    requires whole { rows_start stream.now ≤ length stream.now }
+    requires short { length stream.now < 2 ^ 32 }
+    ensures ok { IfOk result (λ ts. ts.items ≡ tables_in stream.now) }
+    ensures clean { OnOk result (NoneBroken (Broken stream.now assembly)) }
+    ensures refused { OnRefused result (First (Broken stream.now assembly)) }
+{
+    let mut tables = Vec::new(alloc);
+    let mut start = rows_start_of(stream);
+    for table in 0..45u8 {
+        let read = match read_table(alloc, stream, sizes, assembly, table, start) {
+            Ok(read) => read,
+            Err(fault) => return Err(fault),
+        };
+        push(&mut tables, read)?;
+        start += sizes.table_bytes(table);
+    }
+    Ok(tables)
 }

@@ -1,5 +1,5 @@
 // How many rows the tables have, and how wide that makes their columns (ECMA-335, II.24.2.6).
-ghost use Rattle.std.specs.Prelude.{◌≡◌, ◌+◌, ◌*◌, ◌<◌, ◌≤◌, ◌^◌, not, length, slice_index, IsTrue, true, if◌then◌else◌};
+ghost use Rattle.std.specs.Prelude.{◌≡◌, ◌+◌, ◌*◌, ◌<◌, ◌≤◌, ◌^◌, not, length, slice_index, IsTrue, true, count_ones, if◌then◌else◌};
 ghost use Rattle.cil_base.specs.Numbers.{num};
 ghost use Rattle.std.specs.List.{list_all};
 ghost use Rattle.cli_tables.specs.Schema.{coded_tables, tag_bits, columns_of};
@@ -67,6 +67,16 @@ pub fn read_sizes(stream: &[u8]) -> Sizes
         wide_guids: (heap_sizes >> 1) % 2 == 1,
         wide_blobs: (heap_sizes >> 2) % 2 == 1,
     }
+}
+
+/// Where the rows begin: behind a count for each bit of Valid that is set.
+pub fn rows_start_of(stream: &[u8]) -> usize
+    requires { 24 ≤ length stream.now }
+    ensures start { result ≡ rows_start stream.now }
+    ensures bits { rows_start stream.now ≡ 24 + 4 * count_ones (num stream.now 8 8) }
+{
+    let valid = valid_of(stream);
+    24 + 4 * valid.count_ones() as usize
 }
 
 /// The bits of HeapSizes: the heaps that are large.
@@ -147,5 +157,12 @@ impl Sizes {
             total += usize::from(self.width(*column));
         }
         total
+    }
+
+    /// How many bytes all rows of a table take.
+    pub fn table_bytes(&self, table: u8) -> usize
+        ensures { result ≡ count_of self.now table * row_width self.now table }
+    {
+        self.count(table) as usize * self.row_width(table)
     }
 }

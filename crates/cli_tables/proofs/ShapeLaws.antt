@@ -1,0 +1,107 @@
+-- The tables of a stream as a list of lists.
+use Rattle.std.proofs.Common.{◌≡◌, ◌⊎◌, ℕ, zero, suc, ◌+◌, ◌-◌, ◌*◌, ◌^◌, ◌<◌, ◌≤◌, Bool, true, false, not, cond, eqb, ltb, leb, ◌&&◌, List, [], ◌∷◌, length, get_or, map, Option, Some, None, refl, sym, ap, ◌∙◌, subst, inl, inr, arith}
+use Rattle.std.specs.Prelude.{slice_get, sum_by}
+use Rattle.std.specs.List.{range_with_len}
+use Rattle.std.proofs.lemmas.List.{get_or_past, nil_from_length}
+use Rattle.std.proofs.lemmas.List.FromFn.{get_or-map-range_with_len, length-map-range_with_len}
+use Rattle.std.proofs.lemmas.Bool.{cases_lt, eqb-true, ne_eqb, lt-ltb, le-ltb, le-leb, lt-leb}
+use Rattle.cil_base.specs.declared.rule.Rule.TheVariants.{M4}
+use Rattle.cil_base.specs.Refusals.{NoneBroken}
+use Rattle.std.specs.List.{list_all}
+use Rattle.std.proofs.lemmas.List.Sums.{sum_by-cons}
+use Rattle.std.proofs.Math.Nat.{mul-le-mul_left}
+use Rattle.cli_tables.specs.declared.schema.Column.{Column}
+use Rattle.cli_tables.specs.declared.schema.Column.TheVariants.{U8, U16, U32, StringIndex, GuidIndex, BlobIndex, Row, FirstRow, Coded}
+use Rattle.cli_tables.specs.declared.sizes.Sizes.{Sizes}
+use Rattle.cli_tables.specs.Schema.{the_tables, columns_of, tag_bits, coded_tables}
+use Rattle.cli_tables.specs.Stream.{sizes_of, count_of, row_width, width_of, index_width, has_few, cell}
+use Rattle.cli_tables.specs.Layout.{column_in, table_in, table_start, row_end, tables_in, whole_table}
+use Rattle.cli_tables.specs.Tables.{column_of, rows_of, cell_of, HasCell, IsShaped, rows_in, is_cell_in, cell_at, AreIn}
+use Rattle.cli_tables.specs.TableRules.{Broken}
+use Rattle.cli_tables.proofs.CellLaws.{length_column, cell_read}
+
+pub no_columns : (t : ℕ) → 45 ≤ t → columns_of t ≡ []
+unfolding the_tables
+no_columns t past = get_or_past the_tables t [] past
+
+pub is_read : (t c : ℕ) → c < length (columns_of t) → t < 45
+is_read t c lt =
+    elim (cases_lt t 45) [
+      | inl less ↦ less
+      | inr past ↦ let none : length (columns_of t) ≡ 0 = ap (λ (ks : List Column). length ks) (no_columns t past) in absurd (omega (arith, none, lt))
+    ]
+
+pub table_at : (bytes : List ℕ) (t : ℕ) → t < 45 → get_or (tables_in bytes) t [] ≡ whole_table bytes t
+table_at bytes t lt = get_or-map-range_with_len (whole_table bytes) 0 45 t t [] lt (omega arith)
+
+pub table_past : (bytes : List ℕ) (t : ℕ) → 45 ≤ t → get_or (tables_in bytes) t [] ≡ []
+table_past bytes t past = get_or_past (tables_in bytes) t [] (omega (arith, length-map-range_with_len (whole_table bytes) 0 45))
+
+pub rows_read : (bytes : List ℕ) (t c : ℕ) → c < length (columns_of t) → length (column_of (tables_in bytes) t c) ≡ rows_in bytes t
+rows_read bytes t c lt =
+    ap (λ (cs : List (List ℕ)). length (get_or cs c [])) (table_at bytes t (is_read t c lt))
+    ∙ length_column bytes (sizes_of bytes) (table_start bytes t) t (rows_in bytes t) c lt
+
+-- all rows of an unbroken stream lie in it
+pub all_within : (bytes : List ℕ) (a t : ℕ) → NoneBroken (Broken bytes a) → 0 < length (columns_of t) → 1 ≤ rows_in bytes t → row_end bytes t (rows_in bytes t) ≤ length bytes
+all_within bytes a t none some rows =
+    elim (cases_lt (length bytes) (row_end bytes t (rows_in bytes t))) [
+      | inl past ↦ absurd (none (record { rule = M4; assembly = a; table = t; row = rows_in bytes t; at = 0 })
+          (record { assembly_is = refl; place = (rows, omega arith, some); breaks = inl (refl, refl, past) }))
+      | inr le ↦ le
+    ]
+
+some_index : (b : Bool) → 1 ≤ index_width b
+some_index true = omega arith
+some_index false = omega arith
+
+some_width : (s : Sizes) (k : Column) → 1 ≤ width_of s k
+some_width s U8 = omega arith
+some_width s U16 = omega arith
+some_width s U32 = omega arith
+some_width s StringIndex = some_index (not s.wide_strings)
+some_width s GuidIndex = some_index (not s.wide_guids)
+some_width s BlobIndex = some_index (not s.wide_blobs)
+some_width s (Row t) = some_index (has_few s 0 (Some t))
+some_width s (FirstRow t) = some_index (has_few s 0 (Some t))
+some_width s (Coded k) = some_index (list_all (has_few s (tag_bits k)) (coded_tables k))
+
+some_row : (s : Sizes) (ks : List Column) → 0 < length ks → 1 ≤ sum_by (width_of s) ks
+some_row s [] lt = absurd (omega arith)
+some_row s (k ∷ ks) lt = omega (arith, sum_by-cons (width_of s) k ks, some_width s k)
+
+few_rows : (bytes : List ℕ) (a t : ℕ) → NoneBroken (Broken bytes a) → length bytes < 2 ^ 32 → 0 < length (columns_of t) → rows_in bytes t < 2 ^ 32
+few_rows bytes a t none short some =
+    elim (cases_lt 0 (rows_in bytes t)) [
+      | inl lt ↦
+        let w : ℕ = row_width (sizes_of bytes) t in
+        let end : row_end bytes t (rows_in bytes t) ≤ length bytes = all_within bytes a t none some lt in
+        let wide : 1 ≤ row_width (sizes_of bytes) t = some_row (sizes_of bytes) (columns_of t) some in
+        let more : rows_in bytes t * 1 ≤ rows_in bytes t * row_width (sizes_of bytes) t = mul-le-mul_left (rows_in bytes t) wide in
+        omega (arith, end, more, short)
+      | inr le ↦ omega (arith, le)
+    ]
+
+no_cells : (bytes : List ℕ) (t : ℕ) → length (columns_of t) ≡ 0 → get_or (tables_in bytes) t [] ≡ []
+no_cells bytes t none =
+    elim (cases_lt t 45) [
+      | inl lt ↦ nil_from_length (get_or (tables_in bytes) t []) (ap (λ (cs : List (List ℕ)). length cs) (table_at bytes t lt) ∙ length-map-range_with_len (column_in bytes (sizes_of bytes) (table_start bytes t) t (rows_in bytes t)) 0 (length (columns_of t)) ∙ none)
+      | inr past ↦ table_past bytes t past
+    ]
+
+width_of_table : (bytes : List ℕ) (t : ℕ) → length (get_or (tables_in bytes) t []) ≡ length (columns_of t)
+width_of_table bytes t =
+    elim (cases_lt t 45) [
+      | inl lt ↦ ap (λ (cs : List (List ℕ)). length cs) (table_at bytes t lt) ∙ length-map-range_with_len (column_in bytes (sizes_of bytes) (table_start bytes t) t (rows_in bytes t)) 0 (length (columns_of t))
+      | inr past ↦ ap (λ (cs : List (List ℕ)). length cs) (table_past bytes t past) ∙ sym (ap (λ (ks : List Column). length ks) (no_columns t past))
+    ]
+
+pub shaped : (bytes : List ℕ) (a : ℕ) → NoneBroken (Broken bytes a) → length bytes < 2 ^ 32 → IsShaped (tables_in bytes)
+shaped bytes a none short = record {
+  columns = width_of_table bytes;
+  rows = λ t c lt. rows_read bytes t c lt ∙ sym (rows_read bytes t 0 (omega (arith, lt)));
+  few = λ t. elim (cases_lt 0 (length (columns_of t))) [
+    | inl some ↦ omega (arith, rows_read bytes t 0 some, few_rows bytes a t none short some)
+    | inr le ↦ let e : rows_of (tables_in bytes) t ≡ 0 = ap (λ (cs : List (List ℕ)). length (get_or cs 0 [])) (no_cells bytes t (omega (arith, le))) in omega (arith, e)
+  ];
+}
