@@ -43,8 +43,8 @@ rows_read bytes t c lt =
     ∙ length_column bytes (sizes_of bytes) (table_start bytes t) t (rows_in bytes t) c lt
 
 -- all rows of an unbroken stream lie in it
-pub all_within : (bytes : List ℕ) (a t : ℕ) → NoneBroken (Broken bytes a) → 0 < length (columns_of t) → 1 ≤ rows_in bytes t → row_end bytes t (rows_in bytes t) ≤ length bytes
-all_within bytes a t none some rows =
+pub all_within : (meta bytes : List ℕ) (a t : ℕ) → NoneBroken (Broken meta bytes a) → 0 < length (columns_of t) → 1 ≤ rows_in bytes t → row_end bytes t (rows_in bytes t) ≤ length bytes
+all_within meta bytes a t none some rows =
     elim (cases_lt (length bytes) (row_end bytes t (rows_in bytes t))) [
       | inl past ↦ absurd (none (record { rule = M4; assembly = a; table = t; row = rows_in bytes t; at = 0 })
           (record { assembly_is = refl; place = (rows, omega arith, some); breaks = inl (refl, refl, past) }))
@@ -70,12 +70,12 @@ some_row : (s : Sizes) (ks : List Column) → 0 < length ks → 1 ≤ sum_by (wi
 some_row s [] lt = absurd (omega arith)
 some_row s (k ∷ ks) lt = omega (arith, sum_by-cons (width_of s) k ks, some_width s k)
 
-few_rows : (bytes : List ℕ) (a t : ℕ) → NoneBroken (Broken bytes a) → length bytes < 2 ^ 32 → 0 < length (columns_of t) → rows_in bytes t < 2 ^ 32
-few_rows bytes a t none short some =
+few_rows : (meta bytes : List ℕ) (a t : ℕ) → NoneBroken (Broken meta bytes a) → length bytes < 2 ^ 32 → 0 < length (columns_of t) → rows_in bytes t < 2 ^ 32
+few_rows meta bytes a t none short some =
     elim (cases_lt 0 (rows_in bytes t)) [
       | inl lt ↦
         let w : ℕ = row_width (sizes_of bytes) t in
-        let end : row_end bytes t (rows_in bytes t) ≤ length bytes = all_within bytes a t none some lt in
+        let end : row_end bytes t (rows_in bytes t) ≤ length bytes = all_within meta bytes a t none some lt in
         let wide : 1 ≤ row_width (sizes_of bytes) t = some_row (sizes_of bytes) (columns_of t) some in
         let more : rows_in bytes t * 1 ≤ rows_in bytes t * row_width (sizes_of bytes) t = mul-le-mul_left (rows_in bytes t) wide in
         omega (arith, end, more, short)
@@ -96,12 +96,12 @@ width_of_table bytes t =
       | inr past ↦ ap (λ (cs : List (List ℕ)). length cs) (table_past bytes t past) ∙ sym (ap (λ (ks : List Column). length ks) (no_columns t past))
     ]
 
-pub shaped : (bytes : List ℕ) (a : ℕ) → NoneBroken (Broken bytes a) → length bytes < 2 ^ 32 → IsShaped (tables_in bytes)
-shaped bytes a none short = record {
+pub shaped : (meta bytes : List ℕ) (a : ℕ) → NoneBroken (Broken meta bytes a) → length bytes < 2 ^ 32 → IsShaped (tables_in bytes)
+shaped meta bytes a none short = record {
   columns = width_of_table bytes;
   rows = λ t c lt. rows_read bytes t c lt ∙ sym (rows_read bytes t 0 (omega (arith, lt)));
   few = λ t. elim (cases_lt 0 (length (columns_of t))) [
-    | inl some ↦ omega (arith, rows_read bytes t 0 some, few_rows bytes a t none short some)
+    | inl some ↦ omega (arith, rows_read bytes t 0 some, few_rows meta bytes a t none short some)
     | inr le ↦ let e : rows_of (tables_in bytes) t ≡ 0 = ap (λ (cs : List (List ℕ)). length (get_or cs 0 [])) (no_cells bytes t (omega (arith, le))) in omega (arith, e)
   ];
 }

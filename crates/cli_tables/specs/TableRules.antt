@@ -1,11 +1,13 @@
 -- The rules on the tables of a `#~` stream, each with its place: a table, a row and a column (ECMA-335, II.22 and II.24.2.6).
-use Rattle.std.specs.Prelude.{◌≡◌, ◌⊎◌, ℕ, zero, suc, ◌+◌, ◌-◌, ◌*◌, ◌/◌, ◌%◌, ◌^◌, ◌<◌, ◌≤◌, Bool, true, false, not, ◌==◌, ◌||◌, ◌&&◌, nat_lt, nat_le, List, [], ◌∷◌, map, length, get_or, slice_index, Option, Some, None, if◌then◌else◌}
+use Rattle.std.specs.Prelude.{◌≡◌, ◌⊎◌, ℕ, zero, suc, ◌+◌, ◌-◌, ◌*◌, ◌/◌, ◌%◌, ◌^◌, ◌<◌, ◌≤◌, Bool, true, false, not, ◌==◌, ◌||◌, ◌&&◌, nat_lt, nat_le, List, [], ◌∷◌, map, length, get_or, slice_index, Option, Some, None, is_some, if◌then◌else◌}
 use Rattle.std.specs.List.{list_any, range_with_len}
 use Rattle.cil_base.specs.Numbers.{num}
 use Rattle.cil_base.specs.declared.rule.Rule.{Rule}
 use Rattle.cil_base.specs.declared.rule.Rule.TheVariants.{M3, M4, M5, M6, M7}
 use Rattle.cil_base.specs.declared.refusal.Refusal.{Refusal}
 use Rattle.cil_base.specs.Refusals.{Test, Fails}
+use Rattle.cli_heaps.specs.Root.{strings, guids, blobs}
+use Rattle.cli_heaps.specs.Entries.{string_at, blob_at, is_guid_index}
 use Rattle.cli_tables.specs.declared.schema.CodedIndex.{CodedIndex}
 use Rattle.cli_tables.specs.declared.schema.Column.{Column}
 use Rattle.cli_tables.specs.declared.schema.Column.TheVariants.{U8, U16, U32, StringIndex, GuidIndex, BlobIndex, Row, FirstRow, Coded}
@@ -47,12 +49,15 @@ abbrev pub is_past : Sizes → Option ℕ → ℕ → Bool
 is_past sizes None row = true
 is_past sizes (Some table) row = nat_lt (count_of sizes table) row
 
--- whether a number is no index of its column: past its table, or with an unused tag
-abbrev pub names_nothing : Sizes → Column → ℕ → Bool
-names_nothing sizes (Row table) value = nat_lt (count_of sizes table) value
-names_nothing sizes (FirstRow table) value = nat_lt (count_of sizes table + 1) value
-names_nothing sizes (Coded coded) value = is_past sizes (table_of_tag coded (value % 2 ^ tag_bits coded)) (value / 2 ^ tag_bits coded)
-names_nothing sizes _ value = false
+-- whether a number is no index of its column: past its table, with an unused tag, or without a whole entry in its heap
+abbrev pub names_nothing : List ℕ → Sizes → Column → ℕ → Bool
+names_nothing meta sizes StringIndex value = not (is_some (string_at (strings meta) value))
+names_nothing meta sizes GuidIndex value = not (is_guid_index (guids meta) value)
+names_nothing meta sizes BlobIndex value = not (is_some (blob_at (blobs meta) value))
+names_nothing meta sizes (Row table) value = nat_lt (count_of sizes table) value
+names_nothing meta sizes (FirstRow table) value = nat_lt (count_of sizes table + 1) value
+names_nothing meta sizes (Coded coded) value = is_past sizes (table_of_tag coded (value % 2 ^ tag_bits coded)) (value / 2 ^ tag_bits coded)
+names_nothing meta sizes _ value = false
 
 -- the rule on the numbers of a column
 abbrev pub naming_rule : Column → Rule
@@ -74,20 +79,20 @@ abbrev pub IsCut : List ℕ → Refusal → Type 0
 IsCut bytes r = (r.rule ≡ M4) × (r.at ≡ 0) × (length bytes < row_end bytes r.table r.row)
 
 -- The cell is an index that names nothing.
-abbrev pub NamesNothing : List ℕ → Refusal → Type 0
-NamesNothing bytes r = (r.rule ≡ naming_rule (kind_of r.table r.at)) × (names_nothing (sizes_of bytes) (kind_of r.table r.at) (cell bytes r.table r.row r.at) ≡ true)
+abbrev pub NamesNothing : List ℕ → List ℕ → Refusal → Type 0
+NamesNothing meta bytes r = (r.rule ≡ naming_rule (kind_of r.table r.at)) × (names_nothing meta (sizes_of bytes) (kind_of r.table r.at) (cell bytes r.table r.row r.at) ≡ true)
 
 -- The list that the row begins comes before that of the row before.
 abbrev pub Falls : List ℕ → Refusal → Type 0
 Falls bytes r = (r.rule ≡ M6) × (is_list (kind_of r.table r.at) ≡ true) × (1 < r.row) × (cell bytes r.table r.row r.at < cell bytes r.table (r.row - 1) r.at)
 
--- a rule that a row breaks, and where
-pub record Broken (bytes : List ℕ) (assembly : ℕ) (r : Refusal) : Type 0 where
+-- a rule that a row of the stream in this metadata breaks, and where
+pub record Broken (meta bytes : List ℕ) (assembly : ℕ) (r : Refusal) : Type 0 where
   pub assembly_is : r.assembly ≡ assembly
   pub place : IsAtCell bytes r
-  pub breaks : IsCut bytes r ⊎ (NamesNothing bytes r ⊎ Falls bytes r)
+  pub breaks : IsCut bytes r ⊎ (NamesNothing meta bytes r ⊎ Falls bytes r)
 
 -- the same in one table
-pub record BrokenIn (bytes : List ℕ) (assembly table : ℕ) (r : Refusal) : Type 0 where
+pub record BrokenIn (meta bytes : List ℕ) (assembly table : ℕ) (r : Refusal) : Type 0 where
   pub table_is : r.table ≡ table
-  pub broken : Broken bytes assembly r
+  pub broken : Broken meta bytes assembly r

@@ -11,6 +11,7 @@ use crate::rules::first_in_table;
 use crate::sizes::{Sizes, rows_start_of};
 use crate::table::Table;
 use cil_base::{Fault, Refusal, Rule};
+use cli_heaps::Heaps;
 use std::alloc::{AllocError, Global};
 
 /// How many of some rows fit in a space.
@@ -28,6 +29,7 @@ fn whole_rows(space: usize, width: usize, count: u32) -> u32
 /// Reads and tests one table, whose rows begin at `start`.
 fn read_table(
     alloc: Global,
+    heaps: &Heaps<'_>,
     stream: &[u8],
     sizes: &Sizes,
     assembly: u32,
@@ -40,13 +42,13 @@ fn read_table(
     requires short { length stream.now < 2 ^ 32 }
     ensures ok { IfOk result (λ t. t ≡ whole_table stream.now table) }
     ensures within { OnOk result (row_end stream.now table (rows_in stream.now table) ≤ length stream.now) }
-    ensures clean { OnOk result (NoneBroken (BrokenIn stream.now assembly table)) }
-    ensures refused { OnRefused result (First (BrokenIn stream.now assembly table)) }
+    ensures clean { OnOk result (NoneBroken (BrokenIn heaps.now.bytes stream.now assembly table)) }
+    ensures refused { OnRefused result (First (BrokenIn heaps.now.bytes stream.now assembly table)) }
 {
     let count = sizes.count(table);
     let rows = whole_rows(stream.len() - start, sizes.row_width(table), count);
     let read = Table::read(alloc, stream, sizes, table, start, rows)?;
-    if let Some(refusal) = first_in_table(sizes, assembly, table, &read, rows) {
+    if let Some(refusal) = first_in_table(heaps, sizes, assembly, table, &read, rows) {
         return Err(Fault::Refused(refusal));
     }
     if rows < count {
@@ -71,6 +73,7 @@ fn push(tables: &mut Vec<Table>, table: Table) -> Result<(), AllocError>
 /// Reads and tests all tables of a stream.
 pub fn read_tables(
     alloc: Global,
+    heaps: &Heaps<'_>,
     stream: &[u8],
     sizes: &Sizes,
     assembly: u32,
@@ -79,13 +82,13 @@ pub fn read_tables(
     requires whole { rows_start stream.now ≤ length stream.now }
     requires short { length stream.now < 2 ^ 32 }
     ensures ok { IfOk result (λ ts. ts.items ≡ tables_in stream.now) }
-    ensures clean { OnOk result (NoneBroken (Broken stream.now assembly)) }
-    ensures refused { OnRefused result (First (Broken stream.now assembly)) }
+    ensures clean { OnOk result (NoneBroken (Broken heaps.now.bytes stream.now assembly)) }
+    ensures refused { OnRefused result (First (Broken heaps.now.bytes stream.now assembly)) }
 {
     let mut tables = Vec::new(alloc);
     let mut start = rows_start_of(stream);
     for table in 0..45u8 {
-        let read = match read_table(alloc, stream, sizes, assembly, table, start) {
+        let read = match read_table(alloc, heaps, stream, sizes, assembly, table, start) {
             Ok(read) => read,
             Err(fault) => return Err(fault),
         };

@@ -13,7 +13,7 @@ loop-table-init c = record {
 }
 
 pub returns-in-Err-clause-refused : goal.returns-in-Err-clause-refused
-returns-in-Err-clause-refused c = refused_of_all c.args.stream.now c.args.assembly c.loop-table.table c.in-Err.fault c.loop-table.invariant.clean c.in-Err.ensures.refused
+returns-in-Err-clause-refused c = refused_of_all c.args.heaps.now.bytes c.args.stream.now c.args.assembly c.loop-table.table c.in-Err.fault c.loop-table.invariant.clean c.in-Err.ensures.refused
 
 pub overflow_add-start : goal.overflow_add-start
 overflow_add-start c =
@@ -28,8 +28,8 @@ loop-table-preserved c =
       read = c.in_ok-push.ensures ∙ tables_push c.args.stream.now t c.loop-table.tables.items c.in-Ok.read c.loop-table.invariant.read c.in-Ok.ensures.ok;
       place = next_start c.args.stream.now c.args.sizes.now t c.loop-table.start c.table_bytes-start.result c.requires.sizes c.loop-table.invariant.place c.table_bytes-start.ensures;
       near = next_within c.args.stream.now c.args.sizes.now t c.loop-table.start c.table_bytes-start.result c.requires.sizes c.loop-table.invariant.place c.table_bytes-start.ensures c.in-Ok.ensures.within;
-      clean = none_below_more c.args.stream.now c.args.assembly t c.loop-table.invariant.clean c.in-Ok.ensures.clean;
+      clean = none_below_more c.args.heaps.now.bytes c.args.stream.now c.args.assembly t c.loop-table.invariant.clean c.in-Ok.ensures.clean;
     }
 
 pub returns-clause-clean : goal.returns-clause-clean
-returns-clause-clean c = none_at_all c.args.stream.now c.args.assembly c.loop-table.table (omega arith) c.loop-table.invariant.clean
+returns-clause-clean c = none_at_all c.args.heaps.now.bytes c.args.stream.now c.args.assembly c.loop-table.table (omega arith) c.loop-table.invariant.clean

@@ -9,5 +9,5 @@ invariant-loop-table l = record {
   read : l.tables.items ≡ map (whole_table l.stream) (range_with_len 0 l.table);
   place : l.start ≡ table_start l.stream l.table;
   near : l.start ≤ length l.stream;
-  clean : NoneBelow l.stream l.assembly l.table;
+  clean : NoneBelow l.heaps.bytes l.stream l.assembly l.table;
 }
