@@ -5,4 +5,5 @@ pub mod RuleLaws
 pub mod CellLaws
 pub mod BrokenLaws
 pub mod ReadingLaws
+pub mod HeaderLaws
 pub mod ShapeLaws

@@ -6,7 +6,7 @@ use Rattle.cil_base.specs.declared.rule.Rule.{Rule}
 use Rattle.cil_base.specs.declared.rule.Rule.TheVariants.{M3, M4, M5, M6, M7}
 use Rattle.cil_base.specs.declared.refusal.Refusal.{Refusal}
 use Rattle.cil_base.specs.Refusals.{Test, Fails}
-use Rattle.cli_heaps.specs.Root.{strings, guids, blobs}
+use Rattle.cli_heaps.specs.Root.{strings, guids, blobs, tables, tables_offset}
 use Rattle.cli_heaps.specs.Entries.{string_at, blob_at, is_guid_index}
 use Rattle.cli_tables.specs.declared.schema.CodedIndex.{CodedIndex}
 use Rattle.cli_tables.specs.declared.schema.Column.{Column}
@@ -27,7 +27,7 @@ abbrev pub is_unread : List ℕ → ℕ → Bool
 is_unread bytes table = has_table bytes table && (length (columns_of table) == 0)
 
 -- a table that is not read
-abbrev pub has_unread : List ℕ → Bool
+unfoldable pub has_unread : List ℕ → Bool
 has_unread bytes = list_any (is_unread bytes) (range_with_len 0 64)
 
 -- Module and Assembly have one row each
@@ -96,3 +96,12 @@ pub record Broken (meta bytes : List ℕ) (assembly : ℕ) (r : Refusal) : Type 
 pub record BrokenIn (meta bytes : List ℕ) (assembly table : ℕ) (r : Refusal) : Type 0 where
   pub table_is : r.table ≡ table
   pub broken : Broken meta bytes assembly r
+
+-- ---- both layers of an assembly's metadata; the header comes first
+
+-- a rule that the header breaks, and where
+unfoldable pub HeaderBroken : List ℕ → ℕ → Refusal → Type 0
+HeaderBroken meta assembly r = Fails (header_tests (tables meta) (tables_offset meta) assembly) r
+
+abbrev pub RowsBroken : List ℕ → ℕ → Refusal → Type 0
+RowsBroken meta assembly r = Broken meta (tables meta) assembly r

@@ -1,6 +1,7 @@
 //! The tables of metadata (ECMA-335, II.22), each kept as its columns.
 #![tactic(auto)]
 
+mod header;
 mod reading;
 mod rules;
 mod schema;

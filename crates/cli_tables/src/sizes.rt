@@ -20,7 +20,7 @@ pub struct Sizes {
 
 /// The bits of Valid: the tables that have rows.
 #[tactic(auto, unfolding(cil_base::specs::Numbers::num))]
-fn valid_of(stream: &[u8]) -> u64
+pub fn valid_of(stream: &[u8]) -> u64
     requires { 24 ≤ length stream.now }
     ensures { result ≡ num stream.now 8 8 }
 {

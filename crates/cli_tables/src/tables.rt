@@ -1,11 +1,18 @@
 // The tables of an assembly (ECMA-335, II.22).
-ghost use Rattle.std.specs.Prelude.{◌≡◌, ◌+◌, ◌-◌, ◌<◌, ◌≤◌, ◌^◌, ◌↔◌, length, map, IsSome, IfOk};
+ghost use Rattle.std.specs.Prelude.{◌≡◌, ◌+◌, ◌-◌, ◌<◌, ◌≤◌, ◌^◌, ◌↔◌, length, map, IsSome, IfOk, OnOk};
+ghost use Rattle.cil_base.specs.Refusals.{First, NoneBroken, InTurn, OnRefused};
+ghost use Rattle.cli_heaps.specs.Root.{tables};
+ghost use Rattle.cli_tables.specs.TableRules.{HeaderBroken, RowsBroken};
 ghost use Rattle.lane_cols.specs.Places.{places};
 ghost use Rattle.cli_tables.specs.Schema.{columns_of};
-ghost use Rattle.cli_tables.specs.Tables.{column_of, rows_of, cell_of, HasCell, IsShaped};
+ghost use Rattle.cli_tables.specs.Tables.{column_of, rows_of, cell_of, HasCell, IsShaped, AreIn};
 
+use crate::header::first_in_header;
+use crate::reading::read_tables;
+use crate::sizes::{read_sizes, rows_start_of};
 use crate::table::Table;
-use cil_base::U32s;
+use cil_base::{Fault, U32s};
+use cli_heaps::Heaps;
 use lane_cols::places_of;
 use std::alloc::{AllocError, Global};
 use std::marker::Model;
@@ -29,6 +36,28 @@ impl Model for Tables {
 }
 
 impl Tables {
+    /// Reads the tables of the stream `#~` (II.24.2.6). A refusal names `assembly` and the first
+    /// broken place: M3 on the header; else, by table, row and column, M4 to M7.
+    pub fn read(alloc: Global, heaps: &Heaps<'_>, assembly: u32) -> Result<Tables, Fault>
+        ensures cells { IfOk result (AreIn (tables heaps.now.bytes)) }
+        ensures shaped { IfOk result IsShaped }
+        ensures header { OnOk result (NoneBroken (HeaderBroken heaps.now.bytes assembly)) }
+        ensures accepted { OnOk result (NoneBroken (RowsBroken heaps.now.bytes assembly)) }
+        ensures refused { OnRefused result (InTurn (HeaderBroken heaps.now.bytes assembly) (First (RowsBroken heaps.now.bytes assembly))) }
+    {
+        let stream = heaps.tables();
+        let _whole = rows_start_of(stream);
+        let _short = heaps.metadata();
+        let sizes = read_sizes(stream);
+        if let Some(refusal) = first_in_header(stream, &sizes, heaps.tables_offset(), assembly) {
+            return Err(Fault::Refused(refusal));
+        }
+        match read_tables(alloc, heaps, stream, &sizes, assembly) {
+            Ok(tables) => Ok(Tables { tables }),
+            Err(fault) => Err(fault),
+        }
+    }
+
     /// How many rows a table has; none where it is not read.
     pub fn rows(&self, table: u8) -> u32
         ensures rows { result ≡ rows_of self.now table }
