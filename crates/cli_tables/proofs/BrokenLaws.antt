@@ -1,13 +1,13 @@
 -- From the first cell that breaks a rule to the first refusal of a table.
 use Rattle.std.proofs.Common.{◌≡◌, ◌⊎◌, ℕ, zero, suc, ◌+◌, ◌-◌, ◌*◌, ◌<◌, ◌≤◌, Bool, true, false, cond, ltb, ◌&&◌, List, [], ◌∷◌, length, get_or, Option, Some, None, refl, sym, ap, ◌∙◌, subst, inl, inr, arith}
-use Rattle.std.proofs.lemmas.Bool.{cases_Bool, lt-ltb, ltb-true, ne_eqb, and_parts, cases_order, cases_lt}
+use Rattle.std.proofs.lemmas.Bool.{lt-ltb, ltb-true, ne_eqb, and_parts, cases_lt}
 use Rattle.std.proofs.Math.Nat.{mul-le-mul_right}
 use Rattle.cil_base.specs.declared.rule.Rule.{Rule}
-use Rattle.cil_base.specs.declared.rule.Rule.TheVariants.{M4, M5, M6, M7}
+use Rattle.cil_base.specs.declared.rule.Rule.TheVariants.{M4, M6}
 use Rattle.cil_base.specs.declared.refusal.Refusal.{Refusal}
 use Rattle.cil_base.specs.Rules.{rule_number}
 use Rattle.cil_base.specs.Refusals.{key, is_less, First, NoneBroken}
-use Rattle.cil_base.proofs.RefusalLaws.{not_less, less_refl}
+use Rattle.cil_base.proofs.RefusalLaws.{not_less}
 use Rattle.cli_tables.specs.declared.schema.Column.{Column}
 use Rattle.cli_tables.specs.declared.schema.Column.TheVariants.{U8, U16, U32, StringIndex, GuidIndex, BlobIndex, Row, FirstRow, Coded}
 use Rattle.cli_tables.specs.declared.sizes.Sizes.{Sizes}
@@ -15,10 +15,10 @@ use Rattle.cli_tables.specs.Schema.{columns_of}
 use Rattle.cli_tables.specs.Stream.{kind_of, cell, sizes_of, row_width, width_of}
 use Rattle.std.specs.Prelude.{sum_by}
 use Rattle.std.proofs.lemmas.List.{nil_from_length}
-use Rattle.cli_tables.specs.Layout.{table_in, table_start, row_end}
+use Rattle.cli_tables.specs.Layout.{table_in, table_start}
 use Rattle.cli_tables.specs.Tables.{rows_in}
-use Rattle.cli_tables.specs.TableRules.{names_nothing, naming_rule, is_list, IsAtCell, IsCut, NamesNothing, Falls, Broken, BrokenIn}
-use Rattle.cli_tables.specs.CellRules.{cell_rule, before, rule_at, IsCleanRow, AreClean, IsFirstIn}
+use Rattle.cli_tables.specs.TableRules.{names_nothing, naming_rule, is_list, IsCut, NamesNothing, Falls, Broken, BrokenIn}
+use Rattle.cli_tables.specs.CellRules.{cell_rule, before, rule_at, AreClean, IsFirstIn}
 use Rattle.cli_tables.proofs.CellLaws.{cell_read}
 
 -- a rule, and that it doesn't come after another
@@ -61,8 +61,10 @@ shown_falls meta s column b v late list lt same = go (names_nothing meta s colum
   where
     number : rule_number late ≡ 11
     number = ap rule_number same
+
     both : (is_list column && ltb v b) ≡ true
     both = ap (λ (t : Bool). t && ltb v b) list ∙ lt-ltb v b lt
+
     go : (t : Bool) → names_nothing meta s column v ≡ t → Shown (cell_rule meta s column b v) late
     go true e = record {
       rule = naming_rule column;
@@ -77,17 +79,20 @@ shown_falls meta s column b v late list lt same = go (names_nothing meta s colum
 
 -- what a row breaks that lies in the stream shows in the columns that were read
 shown_at : (meta bytes : List ℕ) (a start rows : ℕ) (r : Refusal) → start ≡ table_start bytes r.table → start + rows * row_width (sizes_of bytes) r.table ≤ length bytes
-  → Broken meta bytes a r → r.row ≤ rows → Shown (rule_at meta (sizes_of bytes) r.table (table_in bytes (sizes_of bytes) start r.table rows) (r.row - 1) r.at) r.rule
+    → Broken meta bytes a r → r.row ≤ rows → Shown (rule_at meta (sizes_of bytes) r.table (table_in bytes (sizes_of bytes) start r.table rows) (r.row - 1) r.at) r.rule
 shown_at meta bytes a start rows r place within broken row = go broken.breaks
   where
     above : 1 ≤ r.row
     above = broken.place.0
+
     value : get_or (get_or (table_in bytes (sizes_of bytes) start r.table rows) r.at []) (r.row - 1) 0 ≡ cell bytes r.table r.row r.at
     value = cell_read bytes start r.table rows r.at (r.row - 1) broken.place.2 (omega (arith, above)) place ∙ ap (λ (k : ℕ). cell bytes r.table k r.at) (omega (arith, above))
+
     early : 1 < r.row → before (get_or (table_in bytes (sizes_of bytes) start r.table rows) r.at []) (r.row - 1) ≡ cell bytes r.table (r.row - 1) r.at
     early two =
         ap (λ (t : Bool). cond t 0 (get_or (get_or (table_in bytes (sizes_of bytes) start r.table rows) r.at []) (r.row - 1 - 1) 0)) (ne_eqb (r.row - 1) 0 (λ e. absurd (omega arith)))
         ∙ cell_read bytes start r.table rows r.at (r.row - 1 - 1) broken.place.2 (omega (arith, above)) place ∙ ap (λ (k : ℕ). cell bytes r.table k r.at) (omega (arith, two))
+
     go : IsCut bytes r ⊎ (NamesNothing meta bytes r ⊎ Falls bytes r) → Shown (rule_at meta (sizes_of bytes) r.table (table_in bytes (sizes_of bytes) start r.table rows) (r.row - 1) r.at) r.rule
     go (inl cut) =
         let more : r.row * row_width (sizes_of bytes) r.table ≤ rows * row_width (sizes_of bytes) r.table = mul-le-mul_right (row_width (sizes_of bytes) r.table) row in
@@ -100,19 +105,20 @@ shown_at meta bytes a start rows r place within broken row = go broken.breaks
 
 -- the same for a table by another name
 shown_in : (meta bytes : List ℕ) (a start rows t : ℕ) (r : Refusal) → start ≡ table_start bytes t → start + rows * row_width (sizes_of bytes) t ≤ length bytes
-  → BrokenIn meta bytes a t r → r.row ≤ rows → Shown (rule_at meta (sizes_of bytes) t (table_in bytes (sizes_of bytes) start t rows) (r.row - 1) r.at) r.rule
+    → BrokenIn meta bytes a t r → r.row ≤ rows → Shown (rule_at meta (sizes_of bytes) t (table_in bytes (sizes_of bytes) start t rows) (r.row - 1) r.at) r.rule
 shown_in meta bytes a start rows t r place within h row =
     subst (λ (u : ℕ). start ≡ table_start bytes u → start + rows * row_width (sizes_of bytes) u ≤ length bytes → Shown (rule_at meta (sizes_of bytes) u (table_in bytes (sizes_of bytes) start u rows) (r.row - 1) r.at) r.rule)
-      h.table_is (λ p w. shown_at meta bytes a start rows r p w h.broken row) place within
+    h.table_is (λ p w. shown_at meta bytes a start rows r p w h.broken row) place within
 
 -- what the first rule of a cell says
 told : (meta : List ℕ) (s : Sizes) (column : Column) (b v : ℕ) (rule : Rule) → cell_rule meta s column b v ≡ Some rule
-  → ((rule ≡ naming_rule column) × (names_nothing meta s column v ≡ true)) ⊎ ((rule ≡ M6) × (is_list column ≡ true) × (v < b))
+    → ((rule ≡ naming_rule column) × (names_nothing meta s column v ≡ true)) ⊎ ((rule ≡ M6) × (is_list column ≡ true) × (v < b))
 told meta s column b v rule e = go (names_nothing meta s column v) refl
   where
     later : (t : Bool) → (is_list column && ltb v b) ≡ t → cond t (Some M6) None ≡ Some rule → ((rule ≡ naming_rule column) × (names_nothing meta s column v ≡ true)) ⊎ ((rule ≡ M6) × (is_list column ≡ true) × (v < b))
     later true f g = let p = and_parts (is_list column) (ltb v b) f in inr (cc, p.0, ltb-true v b p.1)
     later false f g = absurd cc
+
     go : (t : Bool) → names_nothing meta s column v ≡ t → ((rule ≡ naming_rule column) × (names_nothing meta s column v ≡ true)) ⊎ ((rule ≡ M6) × (is_list column ≡ true) × (v < b))
     go true f = let g : Some (naming_rule column) ≡ Some rule = ap (λ (t : Bool). cond t (Some (naming_rule column)) (cond (is_list column && ltb v b) (Some M6) None)) (sym f) ∙ e in inl (cc, f)
     go false f = later (is_list column && ltb v b) refl (ap (λ (t : Bool). cond t (Some (naming_rule column)) (cond (is_list column && ltb v b) (Some M6) None)) (sym f) ∙ e)
@@ -123,19 +129,21 @@ second cells zero v lt = absurd (omega (arith, lt))
 second cells (suc k) v lt = omega arith
 
 breaks_at : (meta bytes : List ℕ) (start rows : ℕ) (r : Refusal) → start ≡ table_start bytes r.table → 1 ≤ r.row → r.row ≤ rows → r.at < length (columns_of r.table)
-  → rule_at meta (sizes_of bytes) r.table (table_in bytes (sizes_of bytes) start r.table rows) (r.row - 1) r.at ≡ Some r.rule
-  → IsCut bytes r ⊎ (NamesNothing meta bytes r ⊎ Falls bytes r)
+    → rule_at meta (sizes_of bytes) r.table (table_in bytes (sizes_of bytes) start r.table rows) (r.row - 1) r.at ≡ Some r.rule
+    → IsCut bytes r ⊎ (NamesNothing meta bytes r ⊎ Falls bytes r)
 breaks_at meta bytes start rows r place above row at e = go (told meta (sizes_of bytes) (kind_of r.table r.at) (before (get_or (table_in bytes (sizes_of bytes) start r.table rows) r.at []) (r.row - 1)) (get_or (get_or (table_in bytes (sizes_of bytes) start r.table rows) r.at []) (r.row - 1) 0) r.rule e)
   where
     value : get_or (get_or (table_in bytes (sizes_of bytes) start r.table rows) r.at []) (r.row - 1) 0 ≡ cell bytes r.table r.row r.at
     value = cell_read bytes start r.table rows r.at (r.row - 1) at (omega arith) place ∙ ap (λ (k : ℕ). cell bytes r.table k r.at) (omega arith)
+
     early : 1 < r.row → before (get_or (table_in bytes (sizes_of bytes) start r.table rows) r.at []) (r.row - 1) ≡ cell bytes r.table (r.row - 1) r.at
     early two =
         ap (λ (t : Bool). cond t 0 (get_or (get_or (table_in bytes (sizes_of bytes) start r.table rows) r.at []) (r.row - 1 - 1) 0)) (ne_eqb (r.row - 1) 0 (λ z. absurd (omega (arith, z))))
         ∙ cell_read bytes start r.table rows r.at (r.row - 1 - 1) at (omega arith) place ∙ ap (λ (k : ℕ). cell bytes r.table k r.at) (omega (arith, two))
+
     go : ((r.rule ≡ naming_rule (kind_of r.table r.at)) × (names_nothing meta (sizes_of bytes) (kind_of r.table r.at) (get_or (get_or (table_in bytes (sizes_of bytes) start r.table rows) r.at []) (r.row - 1) 0) ≡ true))
-      ⊎ ((r.rule ≡ M6) × (is_list (kind_of r.table r.at) ≡ true) × (get_or (get_or (table_in bytes (sizes_of bytes) start r.table rows) r.at []) (r.row - 1) 0 < before (get_or (table_in bytes (sizes_of bytes) start r.table rows) r.at []) (r.row - 1)))
-      → IsCut bytes r ⊎ (NamesNothing meta bytes r ⊎ Falls bytes r)
+        ⊎ ((r.rule ≡ M6) × (is_list (kind_of r.table r.at) ≡ true) × (get_or (get_or (table_in bytes (sizes_of bytes) start r.table rows) r.at []) (r.row - 1) 0 < before (get_or (table_in bytes (sizes_of bytes) start r.table rows) r.at []) (r.row - 1)))
+        → IsCut bytes r ⊎ (NamesNothing meta bytes r ⊎ Falls bytes r)
     go (inl n) = inr (inl (n.0, ap (names_nothing meta (sizes_of bytes) (kind_of r.table r.at)) (sym value) ∙ n.1))
     go (inr f) =
         let k = second (get_or (table_in bytes (sizes_of bytes) start r.table rows) r.at []) (r.row - 1) _ f.2 in
@@ -155,7 +163,7 @@ not_before meta bytes a t q r h ra rt row at rule =
     not_less (rule_number q.rule) (rule_number r.rule) [] [] (rule e3 e4) (λ e5. refl)))))
 
 first_cell_at : (meta bytes : List ℕ) (a start rows : ℕ) (r : Refusal) → start ≡ table_start bytes r.table → start + rows * row_width (sizes_of bytes) r.table ≤ length bytes → rows ≤ rows_in bytes r.table
-  → IsFirstIn meta (sizes_of bytes) a r.table (table_in bytes (sizes_of bytes) start r.table rows) rows r → First (BrokenIn meta bytes a r.table) r
+    → IsFirstIn meta (sizes_of bytes) a r.table (table_in bytes (sizes_of bytes) start r.table rows) rows r → First (BrokenIn meta bytes a r.table) r
 first_cell_at meta bytes a start rows r place within many f =
     record {
       broken = record {
@@ -171,27 +179,32 @@ first_cell_at meta bytes a start rows r place within many f =
   where
     shown : (q : Refusal) (h : BrokenIn meta bytes a r.table q) → q.row ≤ rows → Shown (rule_at meta (sizes_of bytes) r.table (table_in bytes (sizes_of bytes) start r.table rows) (q.row - 1) q.at) q.rule
     shown q h le = shown_in meta bytes a start rows r.table q place within h le
+
     column : (q : Refusal) (h : BrokenIn meta bytes a r.table q) → q.at < length (columns_of r.table)
     column q h = subst (λ (t : ℕ). q.at < length (columns_of t)) h.table_is h.broken.place.2
+
     row : (q : Refusal) (h : BrokenIn meta bytes a r.table q) → r.row ≤ q.row
     row q h = elim (cases_lt q.row r.row) [
       | inl lt ↦
-        let above : 1 ≤ q.row = h.broken.place.0 in
-        let yes = shown q h (omega (arith, lt, f.row_within)) in
-        let no = f.before_clean (q.row - 1) (omega (arith, lt, above)) q.at (column q h) in
-        let clash : None ≡ Some yes.rule = sym no ∙ yes.shown in absurd cc
+          let above : 1 ≤ q.row = h.broken.place.0 in
+          let yes = shown q h (omega (arith, lt, f.row_within)) in
+          let no = f.before_clean (q.row - 1) (omega (arith, lt, above)) q.at (column q h) in
+          let clash : None ≡ Some yes.rule = sym no ∙ yes.shown in absurd cc
       | inr le ↦ le
     ]
+
     same : (q : Refusal) → q.row ≡ r.row → (c : ℕ) → rule_at meta (sizes_of bytes) r.table (table_in bytes (sizes_of bytes) start r.table rows) (q.row - 1) c ≡ rule_at meta (sizes_of bytes) r.table (table_in bytes (sizes_of bytes) start r.table rows) (r.row - 1) c
     same q e c = ap (λ (k : ℕ). rule_at meta (sizes_of bytes) r.table (table_in bytes (sizes_of bytes) start r.table rows) (k - 1) c) e
+
     at : (q : Refusal) (h : BrokenIn meta bytes a r.table q) → q.row ≡ r.row → r.at ≤ q.at
     at q h e = elim (cases_lt q.at r.at) [
       | inl lt ↦
-        let yes = shown q h (omega (arith, e, f.row_within)) in
-        let no = f.row_clean q.at lt in
-        let clash : None ≡ Some yes.rule = sym no ∙ sym (same q e q.at) ∙ yes.shown in absurd cc
+          let yes = shown q h (omega (arith, e, f.row_within)) in
+          let no = f.row_clean q.at lt in
+          let clash : None ≡ Some yes.rule = sym no ∙ sym (same q e q.at) ∙ yes.shown in absurd cc
       | inr le ↦ le
     ]
+
     rule : (q : Refusal) (h : BrokenIn meta bytes a r.table q) → q.row ≡ r.row → q.at ≡ r.at → rule_number r.rule ≤ rule_number q.rule
     rule q h e d =
         let yes = shown q h (omega (arith, e, f.row_within)) in
@@ -202,14 +215,14 @@ first_cell_at meta bytes a start rows r place within many f =
 
 -- the first cell that breaks a rule gives the first refusal of the table
 pub first_cell : (meta bytes : List ℕ) (a t start rows : ℕ) (r : Refusal) → start ≡ table_start bytes t → start + rows * row_width (sizes_of bytes) t ≤ length bytes → rows ≤ rows_in bytes t
-  → IsFirstIn meta (sizes_of bytes) a t (table_in bytes (sizes_of bytes) start t rows) rows r → First (BrokenIn meta bytes a t) r
+    → IsFirstIn meta (sizes_of bytes) a t (table_in bytes (sizes_of bytes) start t rows) rows r → First (BrokenIn meta bytes a t) r
 first_cell meta bytes a t start rows r place within many f =
     subst (λ (u : ℕ). start ≡ table_start bytes u → start + rows * row_width (sizes_of bytes) u ≤ length bytes → rows ≤ rows_in bytes u → IsFirstIn meta (sizes_of bytes) a u (table_in bytes (sizes_of bytes) start u rows) rows r → First (BrokenIn meta bytes a u) r)
-      f.table_is (λ p w m g. first_cell_at meta bytes a start rows r p w m g) place within many f
+    f.table_is (λ p w m g. first_cell_at meta bytes a start rows r p w m g) place within many f
 
 -- no refusal of the table, where no cell breaks a rule and all rows lie in the stream
 pub none_in_table : (meta bytes : List ℕ) (a t start rows : ℕ) → start ≡ table_start bytes t → start + rows * row_width (sizes_of bytes) t ≤ length bytes → rows ≡ rows_in bytes t
-  → AreClean meta (sizes_of bytes) t (table_in bytes (sizes_of bytes) start t rows) rows → NoneBroken (BrokenIn meta bytes a t)
+    → AreClean meta (sizes_of bytes) t (table_in bytes (sizes_of bytes) start t rows) rows → NoneBroken (BrokenIn meta bytes a t)
 none_in_table meta bytes a t start rows place within many clean q h =
     let above : 1 ≤ q.row = h.broken.place.0 in
     let in_rows : q.row ≤ rows_in bytes t = subst (λ (u : ℕ). q.row ≤ rows_in bytes u) h.table_is h.broken.place.1 in
@@ -229,28 +242,31 @@ no_width s t e = ap (λ (ks : List Column). sum_by (width_of s) ks) (nil_from_le
 
 -- the first refusal of a table whose other rows don't lie in the stream
 pub first_cut : (meta bytes : List ℕ) (a t start rows : ℕ) (r : Refusal) → start ≡ table_start bytes t → start + rows * row_width (sizes_of bytes) t ≤ length bytes → rows < rows_in bytes t
-  → length bytes < start + (rows + 1) * row_width (sizes_of bytes) t → AreClean meta (sizes_of bytes) t (table_in bytes (sizes_of bytes) start t rows) rows
-  → r ≡ record { rule = M4; assembly = a; table = t; row = rows + 1; at = 0 } → First (BrokenIn meta bytes a t) r
+    → length bytes < start + (rows + 1) * row_width (sizes_of bytes) t → AreClean meta (sizes_of bytes) t (table_in bytes (sizes_of bytes) start t rows) rows
+    → r ≡ record { rule = M4; assembly = a; table = t; row = rows + 1; at = 0 } → First (BrokenIn meta bytes a t) r
 first_cut meta bytes a t start rows r place within more past clean e = subst (First (BrokenIn meta bytes a t)) (sym e) first
   where
     cut : Refusal
     cut = record { rule = M4; assembly = a; table = t; row = rows + 1; at = 0 }
+
     some_columns : 0 < length (columns_of t)
     some_columns = elim (cases_lt 0 (length (columns_of t))) [
       | inl lt ↦ lt
       | inr le ↦ let z : row_width (sizes_of bytes) t ≡ 0 = no_width (sizes_of bytes) t (omega arith) in
-        let p : (rows + 1) * row_width (sizes_of bytes) t ≡ (rows + 1) * 0 = ap (λ (w : ℕ). (rows + 1) * w) z in
-        absurd (omega (arith, p, past, within))
+          let p : (rows + 1) * row_width (sizes_of bytes) t ≡ (rows + 1) * 0 = ap (λ (w : ℕ). (rows + 1) * w) z in
+          absurd (omega (arith, p, past, within))
     ]
+
     row : (q : Refusal) (h : BrokenIn meta bytes a t q) → rows + 1 ≤ q.row
     row q h = elim (cases_lt q.row (rows + 1)) [
       | inl lt ↦
-        let above : 1 ≤ q.row = h.broken.place.0 in
-        let yes = shown_in meta bytes a start rows t q place within h (omega arith) in
-        let no = clean (q.row - 1) (omega (arith, above, lt)) q.at (subst (λ (u : ℕ). q.at < length (columns_of u)) h.table_is h.broken.place.2) in
-        let clash : None ≡ Some yes.rule = sym no ∙ yes.shown in absurd cc
+          let above : 1 ≤ q.row = h.broken.place.0 in
+          let yes = shown_in meta bytes a start rows t q place within h (omega arith) in
+          let no = clean (q.row - 1) (omega (arith, above, lt)) q.at (subst (λ (u : ℕ). q.at < length (columns_of u)) h.table_is h.broken.place.2) in
+          let clash : None ≡ Some yes.rule = sym no ∙ yes.shown in absurd cc
       | inr le ↦ le
     ]
+
     first : First (BrokenIn meta bytes a t) (record { rule = M4; assembly = a; table = t; row = rows + 1; at = 0 })
     first = record {
       broken = record {

@@ -1,22 +1,21 @@
 -- The header's two places, and what an unbroken header says of the counts.
-use Rattle.std.proofs.Common.{◌≡◌, ◌⊎◌, ℕ, zero, suc, ◌+◌, ◌-◌, ◌*◌, ◌<◌, ◌≤◌, Bool, true, false, not, cond, eqb, ◌&&◌, ◌||◌, List, [], ◌∷◌, length, get_or, map, Option, Some, None, refl, sym, ap, ◌∙◌, subst, inl, inr, arith}
+use Rattle.std.proofs.Common.{◌≡◌, ◌⊎◌, ℕ, zero, suc, ◌+◌, ◌*◌, ◌<◌, ◌≤◌, Bool, true, false, not, cond, eqb, ◌&&◌, ◌||◌, List, [], ◌∷◌, length, map, Option, Some, None, refl, sym, ap, ◌∙◌, subst, inl, inr, arith}
 use Rattle.std.specs.List.{range_with_len, list_any}
 use Rattle.std.specs.Prelude.{MatchOption}
 use Rattle.std.proofs.lemmas.List.{get_or_past}
 use Rattle.std.proofs.lemmas.List.FromFn.{get_or-map-range_with_len, length-map-range_with_len}
-use Rattle.std.proofs.lemmas.Bool.{cases_lt, cases_Bool, eq-eqb, both_ways, or_cases}
+use Rattle.std.proofs.lemmas.Bool.{cases_lt, cases_Bool, eq-eqb}
 use Rattle.std.proofs.lemmas.Option.{MatchOption-at_some, MatchOption-at_none}
 use Rattle.cli_heaps.specs.Root.{tables, tables_offset}
 use Rattle.cil_base.specs.declared.rule.Rule.TheVariants.{M3}
 use Rattle.cil_base.specs.declared.refusal.Refusal.{Refusal}
-use Rattle.cil_base.specs.Rules.{rule_number}
-use Rattle.cil_base.specs.Refusals.{Test, Fails, First, NoneBroken, first_of, key, is_less}
-use Rattle.cil_base.proofs.RefusalLaws.{not_less, first_is_first, Rises, less_refl}
+use Rattle.cil_base.specs.Refusals.{Fails, First, NoneBroken, first_of, key, is_less}
+use Rattle.cil_base.proofs.RefusalLaws.{not_less, first_is_first, Rises}
 use Rattle.cil_base.specs.Numbers.{num}
 use Rattle.cli_tables.specs.Schema.{columns_of}
-use Rattle.cli_tables.specs.Stream.{has_table, tables_below, row_count, counts_in, count_of, sizes_of}
+use Rattle.cli_tables.specs.Stream.{has_table, tables_below, row_count, counts_in}
 use Rattle.cli_tables.specs.Tables.{rows_in}
-use Rattle.cli_tables.specs.TableRules.{header_tests, header_test, has_other_heaps, is_unread, has_unread, is_one_assembly, HeaderBroken}
+use Rattle.cli_tables.specs.TableRules.{header_tests, is_unread, has_unread, is_one_assembly, HeaderBroken}
 
 pub any_range : (f : ℕ → Bool) (a n k : ℕ) → a ≤ k → k < a + n → f k ≡ true → list_any f (range_with_len a n) ≡ true
 any_range f a zero k le lt e = absurd (omega arith)
@@ -29,6 +28,7 @@ any_range f a (suc n) k le lt e =
     or_right : (p q : Bool) → q ≡ true → (p || q) ≡ true
     or_right true q h = refl
     or_right false q h = h
+
     or_left : (p q : Bool) → p ≡ true → (p || q) ≡ true
     or_left true q h = refl
     or_left false q h = absurd cc
@@ -59,6 +59,7 @@ unread_rows bytes offset a t none empty =
   where
     fails : (b : Bool) → has_unread bytes ≡ true → (has_unread bytes || b) ≡ true
     fails b h = ap (λ (x : Bool). x || b) h
+
     go : t < 64 → (has_table bytes t ≡ true) ⊎ (has_table bytes t ≡ false) → row_count bytes t ≡ 0
     go lt (inl e) =
         let here : is_unread bytes t ≡ true = ap (λ (b : Bool). b && eqb (length (columns_of t)) 0) e ∙ eq-eqb (length (columns_of t)) 0 empty in

@@ -1,6 +1,5 @@
 -- Where columns stand in their rows, and rows in their table.
-use Rattle.std.proofs.Common.{◌≡◌, ℕ, zero, suc, ◌+◌, ◌-◌, ◌*◌, ◌<◌, ◌≤◌, Bool, true, false, List, [], ◌∷◌, length, get_or, take, drop, map, ◌++◌, leb, refl, sym, ap, subst, ◌∙◌, arith, add-one}
-use Rattle.std.specs.Prelude.{sum_by}
+use Rattle.std.proofs.Common.{◌≡◌, ℕ, zero, suc, ◌+◌, ◌*◌, ◌<◌, ◌≤◌, Bool, true, List, [], ◌∷◌, length, get_or, map, ◌++◌, leb, refl, sym, ap, subst, ◌∙◌, arith}
 use Rattle.std.specs.List.{list_all, range_with_len}
 use Rattle.std.proofs.lemmas.List.{get_or_default}
 use Rattle.std.proofs.lemmas.List.Sums.{fold_more, sum_by_more_le}
@@ -64,12 +63,12 @@ strided_push bytes start stride width n cells v e f =
 
 -- a column that was read where it stands
 pub column_push : (bytes : List ℕ) (s : Sizes) (start table rows n at stride width : ℕ) (columns : List (List ℕ)) (read : List ℕ)
-  → columns ≡ map (column_in bytes s start table rows) (range_with_len 0 n) → read ≡ strided bytes at stride width rows
-  → at ≡ start + offset_of s table n → stride ≡ row_width s table → width ≡ width_of s (kind_of table n)
-  → columns ++ read ∷ [] ≡ map (column_in bytes s start table rows) (range_with_len 0 (n + 1))
+    → columns ≡ map (column_in bytes s start table rows) (range_with_len 0 n) → read ≡ strided bytes at stride width rows
+    → at ≡ start + offset_of s table n → stride ≡ row_width s table → width ≡ width_of s (kind_of table n)
+    → columns ++ read ∷ [] ≡ map (column_in bytes s start table rows) (range_with_len 0 (n + 1))
 column_push bytes s start table rows n at stride width columns read e r place same wide =
     let here : read ≡ column_in bytes s start table rows n =
-      r ∙ ap (λ (k : ℕ). strided bytes k stride width rows) place ∙ ap (λ (k : ℕ). strided bytes (start + offset_of s table n) k width rows) same
-      ∙ ap (λ (k : ℕ). strided bytes (start + offset_of s table n) (row_width s table) k rows) wide in
+    r ∙ ap (λ (k : ℕ). strided bytes k stride width rows) place ∙ ap (λ (k : ℕ). strided bytes (start + offset_of s table n) k width rows) same
+    ∙ ap (λ (k : ℕ). strided bytes (start + offset_of s table n) (row_width s table) k rows) wide in
     ap (λ (l : List (List ℕ)). l ++ read ∷ []) e ∙ ap (λ (x : List ℕ). map (column_in bytes s start table rows) (range_with_len 0 n) ++ x ∷ []) here
     ∙ sym (table_more bytes s start table rows n)

@@ -1,10 +1,9 @@
 -- The tables of a stream as a list of lists.
-use Rattle.std.proofs.Common.{◌≡◌, ◌⊎◌, ℕ, zero, suc, ◌+◌, ◌-◌, ◌*◌, ◌^◌, ◌<◌, ◌≤◌, Bool, true, false, not, cond, eqb, ltb, leb, ◌&&◌, List, [], ◌∷◌, length, get_or, map, Option, Some, None, refl, sym, ap, ◌∙◌, subst, inl, inr, arith, add-one}
+use Rattle.std.proofs.Common.{◌≡◌, ◌⊎◌, ℕ, zero, suc, ◌+◌, ◌-◌, ◌*◌, ◌^◌, ◌<◌, ◌≤◌, Bool, true, false, not, cond, ltb, leb, ◌&&◌, List, [], ◌∷◌, length, get_or, Some, None, refl, sym, ap, ◌∙◌, subst, inl, inr, arith, add-one}
 use Rattle.std.specs.Prelude.{slice_get, sum_by}
-use Rattle.std.specs.List.{range_with_len}
 use Rattle.std.proofs.lemmas.List.{get_or_past, nil_from_length}
 use Rattle.std.proofs.lemmas.List.FromFn.{get_or-map-range_with_len, length-map-range_with_len}
-use Rattle.std.proofs.lemmas.Bool.{cases_lt, eqb-true, ne_eqb, lt-ltb, le-ltb, le-leb, lt-leb}
+use Rattle.std.proofs.lemmas.Bool.{cases_lt, ne_eqb, lt-ltb, le-ltb, le-leb, lt-leb}
 use Rattle.cil_base.specs.declared.rule.Rule.TheVariants.{M4}
 use Rattle.std.proofs.lemmas.Option.{slice_get-get_or, slice_get_past}
 use Rattle.cil_base.specs.declared.refusal.Fault.{Fault}
@@ -18,9 +17,9 @@ use Rattle.cli_tables.specs.declared.schema.Column.{Column}
 use Rattle.cli_tables.specs.declared.schema.Column.TheVariants.{U8, U16, U32, StringIndex, GuidIndex, BlobIndex, Row, FirstRow, Coded}
 use Rattle.cli_tables.specs.declared.sizes.Sizes.{Sizes}
 use Rattle.cli_tables.specs.Schema.{the_tables, columns_of, tag_bits, coded_tables}
-use Rattle.cli_tables.specs.Stream.{sizes_of, count_of, row_width, width_of, index_width, has_few, cell}
-use Rattle.cli_tables.specs.Layout.{column_in, table_in, table_start, row_end, tables_in, whole_table}
-use Rattle.cli_tables.specs.Tables.{column_of, rows_of, cell_of, HasCell, IsShaped, rows_in, is_cell_in, cell_at, AreIn}
+use Rattle.cli_tables.specs.Stream.{sizes_of, row_width, width_of, index_width, has_few, cell}
+use Rattle.cli_tables.specs.Layout.{column_in, table_start, row_end, tables_in, whole_table}
+use Rattle.cli_tables.specs.Tables.{column_of, rows_of, cell_of, IsShaped, rows_in, cell_at, AreIn}
 use Rattle.cli_tables.specs.TableRules.{Broken, header_tests, HeaderBroken, RowsBroken}
 use Rattle.cli_tables.proofs.HeaderLaws.{unread_rows, header_fails}
 use Rattle.cli_tables.proofs.CellLaws.{length_column, cell_read}
@@ -79,11 +78,11 @@ few_rows : (meta bytes : List ℕ) (a t : ℕ) → NoneBroken (Broken meta bytes
 few_rows meta bytes a t none short some =
     elim (cases_lt 0 (rows_in bytes t)) [
       | inl lt ↦
-        let w : ℕ = row_width (sizes_of bytes) t in
-        let end : row_end bytes t (rows_in bytes t) ≤ length bytes = all_within meta bytes a t none some lt in
-        let wide : 1 ≤ row_width (sizes_of bytes) t = some_row (sizes_of bytes) (columns_of t) some in
-        let more : rows_in bytes t * 1 ≤ rows_in bytes t * row_width (sizes_of bytes) t = mul-le-mul_left (rows_in bytes t) wide in
-        omega (arith, end, more, short)
+          let w : ℕ = row_width (sizes_of bytes) t in
+          let end : row_end bytes t (rows_in bytes t) ≤ length bytes = all_within meta bytes a t none some lt in
+          let wide : 1 ≤ row_width (sizes_of bytes) t = some_row (sizes_of bytes) (columns_of t) some in
+          let more : rows_in bytes t * 1 ≤ rows_in bytes t * row_width (sizes_of bytes) t = mul-le-mul_left (rows_in bytes t) wide in
+          omega (arith, end, more, short)
       | inr le ↦ omega (arith, le)
     ]
 
@@ -128,15 +127,19 @@ cells_in bytes t (suc k) c =
   where
     less : suc k - 1 ≡ k
     less = omega arith
+
     yes : (p q s : Bool) (v : ℕ) → p ≡ true → q ≡ true → s ≡ true → Some v ≡ cond (p && (q && s)) (Some v) None
     yes p q s v e f g = sym (ap (λ (b : Bool). cond (b && (q && s)) (Some v) None) e ∙ ap (λ (b : Bool). cond (b && s) (Some v) None) f ∙ ap (λ (b : Bool). cond b (Some v) None) g)
+
     no_row : (p q s : Bool) (v : ℕ) → q ≡ false → None ≡ cond (p && (q && s)) (Some v) None
     no_row true q s v f = sym (ap (λ (b : Bool). cond (b && s) (Some v) None) f)
     no_row false q s v f = refl
+
     no_col : (p q s : Bool) (v : ℕ) → s ≡ false → None ≡ cond (p && (q && s)) (Some v) None
     no_col true true s v f = sym (ap (λ (b : Bool). cond b (Some v) None) f)
     no_col true false s v f = refl
     no_col false q s v f = refl
+
     go : (c < length (columns_of t)) ⊎ (length (columns_of t) ≤ c) → (k < rows_in bytes t) ⊎ (rows_in bytes t ≤ k) → slice_get (column_of (tables_in bytes) t c) k ≡ cell_at bytes t (suc k) c
     go (inl lt) (inl below) =
         cell_is bytes t c k lt below ∙ ap (λ (j : ℕ). Some (cell bytes t j c)) (add-one k)
@@ -153,8 +156,8 @@ are_in bytes offset a none = record {
   rows = λ t. elim (cases_lt 0 (length (columns_of t))) [
     | inl some ↦ rows_read bytes t 0 some
     | inr le ↦
-      let empty : length (columns_of t) ≡ 0 = omega (arith, le) in
-      ap (λ (cs : List (List ℕ)). length (get_or cs 0 [])) (no_cells bytes t empty) ∙ sym (unread_rows bytes offset a t none empty)
+        let empty : length (columns_of t) ≡ 0 = omega (arith, le) in
+        ap (λ (cs : List (List ℕ)). length (get_or cs 0 [])) (no_cells bytes t empty) ∙ sym (unread_rows bytes offset a t none empty)
   ];
   cells = cells_in bytes;
 }

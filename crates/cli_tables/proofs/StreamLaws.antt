@@ -1,5 +1,5 @@
 -- Counts of tables and places of rows.
-use Rattle.std.proofs.Common.{◌≡◌, ◌⊎◌, ℕ, zero, suc, ◌+◌, ◌-◌, ◌*◌, ◌/◌, ◌%◌, ◌^◌, ◌<◌, ◌≤◌, eqb, Bool, true, false, cond, List, length, get_or, drop, refl, sym, ap, ◌∙◌, inl, inr, arith, add-one}
+use Rattle.std.proofs.Common.{◌≡◌, ℕ, zero, suc, ◌+◌, ◌*◌, ◌/◌, ◌%◌, ◌^◌, ◌<◌, ◌≤◌, eqb, Bool, true, false, cond, List, length, get_or, drop, refl, sym, ap, ◌∙◌, inl, inr, arith, add-one}
 use Rattle.std.proofs.lemmas.List.{get_or-drop}
 use Rattle.std.proofs.lemmas.Bool.{cases_eq}
 use Rattle.std.proofs.lemmas.Nat.{ones_cat, pow_pos}
@@ -22,8 +22,8 @@ tables_below_le bytes n (suc m) le =
     elim (cases_eq n (suc m)) [
       | inl e ↦ rw e (omega arith)
       | inr ne ↦ let before : tables_below bytes n ≤ tables_below bytes m = tables_below_le bytes n m (omega arith) in
-        let more : tables_below bytes (suc m) ≡ tables_below bytes m + cond (has_table bytes m) 1 0 = ap (tables_below bytes) (sym (add-one m)) ∙ tables_below_more bytes m in
-        omega arith
+          let more : tables_below bytes (suc m) ≡ tables_below bytes m + cond (has_table bytes m) 1 0 = ap (tables_below bytes) (sym (add-one m)) ∙ tables_below_more bytes m in
+          omega arith
     ]
 
 pub byte_at : (bytes : List ℕ) (at : ℕ) → get_or bytes at 0 ≡ num bytes at 1

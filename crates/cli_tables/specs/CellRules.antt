@@ -1,5 +1,5 @@
 -- The first rule that a cell breaks, by its number and that of the row before.
-use Rattle.std.specs.Prelude.{◌≡◌, ℕ, ◌+◌, ◌-◌, ◌<◌, ◌≤◌, Bool, ◌==◌, ◌&&◌, nat_lt, List, [], length, get_or, Option, Some, None, if◌then◌else◌}
+use Rattle.std.specs.Prelude.{◌≡◌, ℕ, ◌-◌, ◌<◌, ◌≤◌, ◌==◌, ◌&&◌, nat_lt, List, [], length, get_or, Option, Some, None, if◌then◌else◌}
 use Rattle.cil_base.specs.declared.rule.Rule.{Rule}
 use Rattle.cil_base.specs.declared.rule.Rule.TheVariants.{M6}
 use Rattle.cil_base.specs.declared.refusal.Refusal.{Refusal}
@@ -11,9 +11,9 @@ use Rattle.cli_tables.specs.TableRules.{names_nothing, naming_rule, is_list}
 
 abbrev pub cell_rule : List ℕ → Sizes → Column → ℕ → ℕ → Option Rule
 cell_rule meta sizes column before value =
-  if names_nothing meta sizes column value then Some (naming_rule column)
-  else if is_list column && nat_lt value before then Some M6
-  else None
+    if names_nothing meta sizes column value then Some (naming_rule column)
+    else if is_list column && nat_lt value before then Some M6
+    else None
 
 -- the number of the row before, and 0 before the first row
 abbrev pub before : List ℕ → ℕ → ℕ

@@ -1,7 +1,6 @@
 -- The columns of a table whose rows stand one after another.
-use Rattle.std.specs.Prelude.{ℕ, ◌+◌, ◌*◌, List, [], map, length, get_or}
+use Rattle.std.specs.Prelude.{ℕ, ◌+◌, ◌*◌, List, map, length}
 use Rattle.std.specs.List.{range_with_len}
-use Rattle.cil_base.specs.Numbers.{num}
 use Rattle.cli_tables.specs.declared.sizes.Sizes.{Sizes}
 use Rattle.cli_tables.specs.Schema.{columns_of}
 use Rattle.cli_tables.specs.Stream.{width_of, row_width, offset_of, bytes_below, rows_start, sizes_of, count_of, kind_of, strided}

@@ -1,8 +1,7 @@
 -- The `#~` stream (ECMA-335, II.24.2.6): its header, the widths of columns, and where a cell stands.
-use Rattle.std.specs.Prelude.{◌≡◌, ℕ, zero, suc, ◌+◌, ◌-◌, ◌*◌, ◌/◌, ◌%◌, ◌^◌, ◌<◌, ◌≤◌, Bool, true, false, not, ◌==◌, ◌||◌, nat_lt, List, [], ◌∷◌, map, sum_by, length, take, get_or, slice_index, Option, Some, None, if◌then◌else◌}
+use Rattle.std.specs.Prelude.{ℕ, zero, suc, ◌+◌, ◌-◌, ◌*◌, ◌/◌, ◌%◌, ◌^◌, Bool, true, not, ◌==◌, ◌||◌, nat_lt, List, map, sum_by, take, get_or, slice_index, Option, Some, None, if◌then◌else◌}
 use Rattle.std.specs.List.{list_all, range_with_len}
 use Rattle.cil_base.specs.Numbers.{num}
-use Rattle.cli_tables.specs.declared.schema.CodedIndex.{CodedIndex}
 use Rattle.cli_tables.specs.declared.schema.Column.{Column}
 use Rattle.cli_tables.specs.declared.schema.Column.TheVariants.{U8, U16, U32, StringIndex, GuidIndex, BlobIndex, Row, FirstRow, Coded}
 use Rattle.cli_tables.specs.declared.sizes.Sizes.{Sizes}

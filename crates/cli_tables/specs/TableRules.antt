@@ -1,5 +1,5 @@
 -- The rules on the tables of a `#~` stream, each with its place: a table, a row and a column (ECMA-335, II.22 and II.24.2.6).
-use Rattle.std.specs.Prelude.{◌≡◌, ◌⊎◌, ℕ, zero, suc, ◌+◌, ◌-◌, ◌*◌, ◌/◌, ◌%◌, ◌^◌, ◌<◌, ◌≤◌, Bool, true, false, not, ◌==◌, ◌||◌, ◌&&◌, nat_lt, nat_le, List, [], ◌∷◌, map, length, get_or, slice_index, Option, Some, None, is_some, if◌then◌else◌}
+use Rattle.std.specs.Prelude.{◌≡◌, ◌⊎◌, ℕ, ◌+◌, ◌-◌, ◌/◌, ◌%◌, ◌^◌, ◌<◌, ◌≤◌, Bool, true, false, not, ◌==◌, ◌||◌, ◌&&◌, nat_lt, List, [], ◌∷◌, length, Option, Some, None, is_some}
 use Rattle.std.specs.List.{list_any, range_with_len}
 use Rattle.cil_base.specs.Numbers.{num}
 use Rattle.cil_base.specs.declared.rule.Rule.{Rule}
@@ -8,12 +8,11 @@ use Rattle.cil_base.specs.declared.refusal.Refusal.{Refusal}
 use Rattle.cil_base.specs.Refusals.{Test, Fails}
 use Rattle.cli_heaps.specs.Root.{strings, guids, blobs, tables, tables_offset}
 use Rattle.cli_heaps.specs.Entries.{string_at, blob_at, is_guid_index}
-use Rattle.cli_tables.specs.declared.schema.CodedIndex.{CodedIndex}
 use Rattle.cli_tables.specs.declared.schema.Column.{Column}
-use Rattle.cli_tables.specs.declared.schema.Column.TheVariants.{U8, U16, U32, StringIndex, GuidIndex, BlobIndex, Row, FirstRow, Coded}
+use Rattle.cli_tables.specs.declared.schema.Column.TheVariants.{StringIndex, GuidIndex, BlobIndex, Row, FirstRow, Coded}
 use Rattle.cli_tables.specs.declared.sizes.Sizes.{Sizes}
 use Rattle.cli_tables.specs.Schema.{columns_of, table_of_tag, tag_bits}
-use Rattle.cli_tables.specs.Stream.{has_bit, has_table, count_of, sizes_of, kind_of, cell}
+use Rattle.cli_tables.specs.Stream.{has_table, count_of, sizes_of, kind_of, cell}
 use Rattle.cli_tables.specs.Layout.{row_end}
 use Rattle.cli_tables.specs.Tables.{rows_in}
 
@@ -40,8 +39,8 @@ header_test assembly at fails = record { refusal = record { rule = M3; assembly 
 -- HeapSizes stands at 6, Valid at 8
 abbrev pub header_tests : List ℕ → ℕ → ℕ → List Test
 header_tests bytes offset assembly =
-  header_test assembly (offset + 6) (has_other_heaps bytes) ∷
-  header_test assembly (offset + 8) (has_unread bytes || not (is_one_assembly bytes)) ∷ []
+    header_test assembly (offset + 6) (has_other_heaps bytes) ∷
+    header_test assembly (offset + 8) (has_unread bytes || not (is_one_assembly bytes)) ∷ []
 
 -- ---- rows
 

@@ -1,6 +1,5 @@
 -- Tables as contracts see them (ECMA-335, II.22): by rising number, each as its columns, each as the cells of its rows in order.
-use Rattle.std.specs.Prelude.{◌≡◌, ℕ, zero, suc, ◌+◌, ◌-◌, ◌*◌, ◌^◌, ◌<◌, ◌≤◌, Bool, ◌&&◌, ◌==◌, nat_lt, nat_le, List, [], map, length, get_or, slice_get, Option, Some, None, if◌then◌else◌}
-use Rattle.std.specs.List.{range_with_len}
+use Rattle.std.specs.Prelude.{◌≡◌, ℕ, ◌-◌, ◌^◌, ◌<◌, ◌≤◌, Bool, ◌&&◌, ◌==◌, nat_lt, nat_le, List, [], length, get_or, slice_get, Option, Some, None, if◌then◌else◌}
 use Rattle.cli_tables.specs.Schema.{columns_of}
 use Rattle.cli_tables.specs.Stream.{sizes_of, count_of, cell}
 

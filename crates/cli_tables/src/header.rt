@@ -43,12 +43,7 @@ fn broken(assembly: u32, at: u32) -> Refusal
 }
 
 /// The first rule that the header breaks; the stream begins at `offset` of the metadata.
-pub fn first_in_header(
-    stream: &[u8],
-    sizes: &Sizes,
-    offset: u32,
-    assembly: u32,
-) -> Option<Refusal>
+pub fn first_in_header(stream: &[u8], sizes: &Sizes, offset: u32, assembly: u32) -> Option<Refusal>
     requires whole { 24 ≤ length stream.now }
     requires sizes { sizes.now ≡ sizes_of stream.now }
     requires near { offset + length stream.now < 2 ^ 32 }

@@ -12,3 +12,6 @@ mod tables;
 pub use schema::{CodedIndex, Column, TABLE_COUNT, columns};
 pub use sizes::Sizes;
 pub use tables::Tables;
+
+#[cfg(test)]
+mod tests;

@@ -55,7 +55,13 @@ fn is_list(column: Column) -> bool
 }
 
 /// The first rule that a cell breaks, by its number and that of the row before.
-fn cell_rule(heaps: &Heaps<'_>, sizes: &Sizes, column: Column, before: u32, value: u32) -> Option<Rule>
+fn cell_rule(
+    heaps: &Heaps<'_>,
+    sizes: &Sizes,
+    column: Column,
+    before: u32,
+    value: u32,
+) -> Option<Rule>
     ensures { result ≡ cell_rule heaps.now.bytes sizes.now column before value }
 {
     if names_nothing(heaps, sizes, column, value) {
@@ -86,7 +92,13 @@ fn scan(heaps: &Heaps<'_>, sizes: &Sizes, column: Column, cells: &[u32]) -> bool
 }
 
 /// The first rule that a row breaks, with its column.
-fn first_in_row(heaps: &Heaps<'_>, sizes: &Sizes, table: u8, rows: &Table, k: usize) -> Option<(u32, Rule)>
+fn first_in_row(
+    heaps: &Heaps<'_>,
+    sizes: &Sizes,
+    table: u8,
+    rows: &Table,
+    k: usize,
+) -> Option<(u32, Rule)>
     requires { (c : ℕ) → c < length (columns_of table) → k < length (get_or rows.now c []) }
     ensures { MatchOption result (IsCleanRow heaps.now.bytes sizes.now table rows.now k (length (columns_of table))) (λ f. (f.0 < length (columns_of table)) × (rule_at heaps.now.bytes sizes.now table rows.now k f.0 ≡ Some f.1) × IsCleanRow heaps.now.bytes sizes.now table rows.now k f.0) }
 {

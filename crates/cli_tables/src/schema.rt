@@ -41,11 +41,28 @@ pub const TABLE_COUNT: usize = 45;
 
 static TABLES: [&[Column]; 45] = [
     // 00 Module
-    &[Column::U16, Column::StringIndex, Column::GuidIndex, Column::GuidIndex, Column::GuidIndex],
+    &[
+        Column::U16,
+        Column::StringIndex,
+        Column::GuidIndex,
+        Column::GuidIndex,
+        Column::GuidIndex,
+    ],
     // 01 TypeRef
-    &[Column::Coded(CodedIndex::ResolutionScope), Column::StringIndex, Column::StringIndex],
+    &[
+        Column::Coded(CodedIndex::ResolutionScope),
+        Column::StringIndex,
+        Column::StringIndex,
+    ],
     // 02 TypeDef
-    &[Column::U32, Column::StringIndex, Column::StringIndex, Column::Coded(CodedIndex::TypeDefOrRef), Column::FirstRow(0x04), Column::FirstRow(0x06)],
+    &[
+        Column::U32,
+        Column::StringIndex,
+        Column::StringIndex,
+        Column::Coded(CodedIndex::TypeDefOrRef),
+        Column::FirstRow(0x04),
+        Column::FirstRow(0x06),
+    ],
     // 03 is not read
     &[],
     // 04 Field
@@ -53,7 +70,14 @@ static TABLES: [&[Column]; 45] = [
     // 05 is not read
     &[],
     // 06 MethodDef
-    &[Column::U32, Column::U16, Column::U16, Column::StringIndex, Column::BlobIndex, Column::FirstRow(0x08)],
+    &[
+        Column::U32,
+        Column::U16,
+        Column::U16,
+        Column::StringIndex,
+        Column::BlobIndex,
+        Column::FirstRow(0x08),
+    ],
     // 07 is not read
     &[],
     // 08 Param
@@ -61,15 +85,35 @@ static TABLES: [&[Column]; 45] = [
     // 09 InterfaceImpl
     &[Column::Row(0x02), Column::Coded(CodedIndex::TypeDefOrRef)],
     // 0A MemberRef
-    &[Column::Coded(CodedIndex::MemberRefParent), Column::StringIndex, Column::BlobIndex],
+    &[
+        Column::Coded(CodedIndex::MemberRefParent),
+        Column::StringIndex,
+        Column::BlobIndex,
+    ],
     // 0B Constant
-    &[Column::U8, Column::U8, Column::Coded(CodedIndex::HasConstant), Column::BlobIndex],
+    &[
+        Column::U8,
+        Column::U8,
+        Column::Coded(CodedIndex::HasConstant),
+        Column::BlobIndex,
+    ],
     // 0C CustomAttribute
-    &[Column::Coded(CodedIndex::HasCustomAttribute), Column::Coded(CodedIndex::CustomAttributeType), Column::BlobIndex],
+    &[
+        Column::Coded(CodedIndex::HasCustomAttribute),
+        Column::Coded(CodedIndex::CustomAttributeType),
+        Column::BlobIndex,
+    ],
     // 0D FieldMarshal
-    &[Column::Coded(CodedIndex::HasFieldMarshal), Column::BlobIndex],
+    &[
+        Column::Coded(CodedIndex::HasFieldMarshal),
+        Column::BlobIndex,
+    ],
     // 0E DeclSecurity
-    &[Column::U16, Column::Coded(CodedIndex::HasDeclSecurity), Column::BlobIndex],
+    &[
+        Column::U16,
+        Column::Coded(CodedIndex::HasDeclSecurity),
+        Column::BlobIndex,
+    ],
     // 0F ClassLayout
     &[Column::U16, Column::U32, Column::Row(0x02)],
     // 10 FieldLayout
@@ -81,7 +125,11 @@ static TABLES: [&[Column]; 45] = [
     // 13 is not read
     &[],
     // 14 Event
-    &[Column::U16, Column::StringIndex, Column::Coded(CodedIndex::TypeDefOrRef)],
+    &[
+        Column::U16,
+        Column::StringIndex,
+        Column::Coded(CodedIndex::TypeDefOrRef),
+    ],
     // 15 PropertyMap
     &[Column::Row(0x02), Column::FirstRow(0x17)],
     // 16 is not read
@@ -89,15 +137,28 @@ static TABLES: [&[Column]; 45] = [
     // 17 Property
     &[Column::U16, Column::StringIndex, Column::BlobIndex],
     // 18 MethodSemantics
-    &[Column::U16, Column::Row(0x06), Column::Coded(CodedIndex::HasSemantics)],
+    &[
+        Column::U16,
+        Column::Row(0x06),
+        Column::Coded(CodedIndex::HasSemantics),
+    ],
     // 19 MethodImpl
-    &[Column::Row(0x02), Column::Coded(CodedIndex::MethodDefOrRef), Column::Coded(CodedIndex::MethodDefOrRef)],
+    &[
+        Column::Row(0x02),
+        Column::Coded(CodedIndex::MethodDefOrRef),
+        Column::Coded(CodedIndex::MethodDefOrRef),
+    ],
     // 1A ModuleRef
     &[Column::StringIndex],
     // 1B TypeSpec
     &[Column::BlobIndex],
     // 1C ImplMap
-    &[Column::U16, Column::Coded(CodedIndex::MemberForwarded), Column::StringIndex, Column::Row(0x1A)],
+    &[
+        Column::U16,
+        Column::Coded(CodedIndex::MemberForwarded),
+        Column::StringIndex,
+        Column::Row(0x1A),
+    ],
     // 1D FieldRVA
     &[Column::U32, Column::Row(0x04)],
     // 1E is not read
@@ -105,13 +166,33 @@ static TABLES: [&[Column]; 45] = [
     // 1F is not read
     &[],
     // 20 Assembly
-    &[Column::U32, Column::U16, Column::U16, Column::U16, Column::U16, Column::U32, Column::BlobIndex, Column::StringIndex, Column::StringIndex],
+    &[
+        Column::U32,
+        Column::U16,
+        Column::U16,
+        Column::U16,
+        Column::U16,
+        Column::U32,
+        Column::BlobIndex,
+        Column::StringIndex,
+        Column::StringIndex,
+    ],
     // 21 AssemblyProcessor
     &[Column::U32],
     // 22 AssemblyOS
     &[Column::U32, Column::U32, Column::U32],
     // 23 AssemblyRef
-    &[Column::U16, Column::U16, Column::U16, Column::U16, Column::U32, Column::BlobIndex, Column::StringIndex, Column::StringIndex, Column::BlobIndex],
+    &[
+        Column::U16,
+        Column::U16,
+        Column::U16,
+        Column::U16,
+        Column::U32,
+        Column::BlobIndex,
+        Column::StringIndex,
+        Column::StringIndex,
+        Column::BlobIndex,
+    ],
     // 24 AssemblyRefProcessor
     &[Column::U32, Column::Row(0x23)],
     // 25 AssemblyRefOS
@@ -119,13 +200,29 @@ static TABLES: [&[Column]; 45] = [
     // 26 File
     &[Column::U32, Column::StringIndex, Column::BlobIndex],
     // 27 ExportedType
-    &[Column::U32, Column::U32, Column::StringIndex, Column::StringIndex, Column::Coded(CodedIndex::Implementation)],
+    &[
+        Column::U32,
+        Column::U32,
+        Column::StringIndex,
+        Column::StringIndex,
+        Column::Coded(CodedIndex::Implementation),
+    ],
     // 28 ManifestResource
-    &[Column::U32, Column::U32, Column::StringIndex, Column::Coded(CodedIndex::Implementation)],
+    &[
+        Column::U32,
+        Column::U32,
+        Column::StringIndex,
+        Column::Coded(CodedIndex::Implementation),
+    ],
     // 29 NestedClass
     &[Column::Row(0x02), Column::Row(0x02)],
     // 2A GenericParam
-    &[Column::U16, Column::U16, Column::Coded(CodedIndex::TypeOrMethodDef), Column::StringIndex],
+    &[
+        Column::U16,
+        Column::U16,
+        Column::Coded(CodedIndex::TypeOrMethodDef),
+        Column::StringIndex,
+    ],
     // 2B MethodSpec
     &[Column::Coded(CodedIndex::MethodDefOrRef), Column::BlobIndex],
     // 2C GenericParamConstraint
@@ -133,17 +230,58 @@ static TABLES: [&[Column]; 45] = [
 ];
 
 static TYPE_DEF_OR_REF: [Option<u8>; 3] = [Some(0x02), Some(0x01), Some(0x1B)];
+
 static HAS_CONSTANT: [Option<u8>; 3] = [Some(0x04), Some(0x08), Some(0x17)];
-static HAS_CUSTOM_ATTRIBUTE: [Option<u8>; 22] = [Some(0x06), Some(0x04), Some(0x01), Some(0x02), Some(0x08), Some(0x09), Some(0x0A), Some(0x00), Some(0x0E), Some(0x17), Some(0x14), Some(0x11), Some(0x1A), Some(0x1B), Some(0x20), Some(0x23), Some(0x26), Some(0x27), Some(0x28), Some(0x2A), Some(0x2C), Some(0x2B)];
+
+static HAS_CUSTOM_ATTRIBUTE: [Option<u8>; 22] = [
+    Some(0x06),
+    Some(0x04),
+    Some(0x01),
+    Some(0x02),
+    Some(0x08),
+    Some(0x09),
+    Some(0x0A),
+    Some(0x00),
+    Some(0x0E),
+    Some(0x17),
+    Some(0x14),
+    Some(0x11),
+    Some(0x1A),
+    Some(0x1B),
+    Some(0x20),
+    Some(0x23),
+    Some(0x26),
+    Some(0x27),
+    Some(0x28),
+    Some(0x2A),
+    Some(0x2C),
+    Some(0x2B),
+];
+
 static HAS_FIELD_MARSHAL: [Option<u8>; 2] = [Some(0x04), Some(0x08)];
+
 static HAS_DECL_SECURITY: [Option<u8>; 3] = [Some(0x02), Some(0x06), Some(0x20)];
-static MEMBER_REF_PARENT: [Option<u8>; 5] = [Some(0x02), Some(0x01), Some(0x1A), Some(0x06), Some(0x1B)];
+
+static MEMBER_REF_PARENT: [Option<u8>; 5] = [
+    Some(0x02),
+    Some(0x01),
+    Some(0x1A),
+    Some(0x06),
+    Some(0x1B),
+];
+
 static HAS_SEMANTICS: [Option<u8>; 2] = [Some(0x14), Some(0x17)];
+
 static METHOD_DEF_OR_REF: [Option<u8>; 2] = [Some(0x06), Some(0x0A)];
+
 static MEMBER_FORWARDED: [Option<u8>; 2] = [Some(0x04), Some(0x06)];
+
 static IMPLEMENTATION: [Option<u8>; 3] = [Some(0x26), Some(0x23), Some(0x27)];
+
 static CUSTOM_ATTRIBUTE_TYPE: [Option<u8>; 5] = [None, None, Some(0x06), Some(0x0A), None];
+
 static RESOLUTION_SCOPE: [Option<u8>; 4] = [Some(0x00), Some(0x1A), Some(0x23), Some(0x01)];
+
 static TYPE_OR_METHOD_DEF: [Option<u8>; 2] = [Some(0x02), Some(0x06)];
 
 /// The columns of a table; none where the table is not read.
@@ -153,7 +291,11 @@ pub fn columns(table: u8) -> &'static [Column]
     ensures few { length result.now ≤ 16 }
 {
     let table = table as usize;
-    if table < TABLE_COUNT { TABLES[table] } else { &[] }
+    if table < TABLE_COUNT {
+        TABLES[table]
+    } else {
+        &[]
+    }
 }
 
 impl CodedIndex {

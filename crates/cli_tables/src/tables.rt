@@ -85,8 +85,6 @@ impl Tables {
         if row == 0 {
             return None;
         }
-        self.column(table, column)
-            .get(row as usize - 1)
-            .copied()
+        self.column(table, column).get(row as usize - 1).copied()
     }
 }

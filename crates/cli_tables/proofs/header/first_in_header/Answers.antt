@@ -1,4 +1,4 @@
-use Rattle.std.proofs.Common.{◌≡◌, ◌∙◌, ◌/◌, ◌^◌, ℕ, not, ap, sym, arith, true}
+use Rattle.std.proofs.Common.{◌≡◌, ◌∙◌, ◌/◌, ◌^◌, ℕ, not, ap, true}
 use Rattle.std.proofs.lemmas.Bool.{ne_eqb}
 use Rattle.cil_base.specs.Numbers.{num}
 use Rattle.cli_tables.specs.TableRules.{has_other_heaps}

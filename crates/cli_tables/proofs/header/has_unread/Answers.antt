@@ -1,4 +1,4 @@
-use Rattle.std.proofs.Common.{◌≡◌, ◌∙◌, ◌/◌, ◌%◌, ◌^◌, ◌&&◌, ℕ, eqb, length, sym, ap, arith, below_more, true, false, Bool}
+use Rattle.std.proofs.Common.{◌≡◌, ◌∙◌, ◌&&◌, ℕ, eqb, length, sym, ap, arith, below_more, true}
 use Rattle.cil_base.specs.Numbers.{num}
 use Rattle.cli_tables.specs.Schema.{columns_of}
 use Rattle.cli_tables.specs.Stream.{has_bit}

@@ -1,4 +1,4 @@
-use Rattle.std.proofs.Common.{◌≡◌, ◌∙◌, ◌+◌, ◌*◌, ◌≤◌, ◌<◌, length, arith}
+use Rattle.std.proofs.Common.{◌∙◌, ◌+◌, ◌≤◌, length, arith}
 use Rattle.cli_tables.specs.Stream.{sizes_of}
 use Rattle.cli_tables.proofs.StreamLaws.{bytes_below_none}
 use Rattle.cli_tables.proofs.ReadingLaws.{none_below_more, refused_of_all, none_at_all, tables_push, next_start, next_within}
@@ -18,7 +18,7 @@ returns-in-Err-clause-refused c = refused_of_all c.args.heaps.now.bytes c.args.s
 pub overflow_add-start : goal.overflow_add-start
 overflow_add-start c =
     let e : c.loop-table.start + c.table_bytes-start.result ≤ length c.args.stream.now =
-      next_within c.args.stream.now c.args.sizes.now c.loop-table.table c.loop-table.start c.table_bytes-start.result c.requires.sizes c.loop-table.invariant.place c.table_bytes-start.ensures c.in-Ok.ensures.within in
+    next_within c.args.stream.now c.args.sizes.now c.loop-table.table c.loop-table.start c.table_bytes-start.result c.requires.sizes c.loop-table.invariant.place c.table_bytes-start.ensures c.in-Ok.ensures.within in
     omega (arith, e, c.requires.short)
 
 pub loop-table-preserved : goal.loop-table-preserved

@@ -1,5 +1,5 @@
-use Rattle.std.proofs.Common.{◌≡◌, ◌∙◌, sym, ap, ℕ, below_more, get_or}
-use Rattle.cli_tables.specs.CellRules.{cell_rule, before}
+use Rattle.std.proofs.Common.{◌∙◌, sym, ap, ℕ, below_more, get_or}
+use Rattle.cli_tables.specs.CellRules.{cell_rule}
 use Rattle.cli_tables.proofs.rules.scan.Goals as goal
 
 pub loop-k-preserved : goal.loop-k-preserved

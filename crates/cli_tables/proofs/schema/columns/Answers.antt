@@ -1,6 +1,6 @@
-use Rattle.std.proofs.Common.{sym, [], rules, refl, ◌∙◌, ap, arith, ℕ, ◌≤◌, length}
+use Rattle.std.proofs.Common.{sym, [], rules}
 use Rattle.std.proofs.lemmas.List.{get_or_past}
-use Rattle.cli_tables.specs.Schema.{the_tables, columns_of}
+use Rattle.cli_tables.specs.Schema.{the_tables}
 use Rattle.cli_tables.proofs.SchemaLaws.{borrowed_at}
 use Rattle.cli_tables.proofs.LayoutLaws.{few_columns}
 use Rattle.cli_tables.proofs.schema.columns.Goals as goal

@@ -1,4 +1,4 @@
-use Rattle.std.proofs.Common.{◌≡◌, ℕ, ◌+◌, ◌*◌, ◌/◌, ◌%◌, ◌^◌, ◌<◌, ◌≢◌, length, refl, ap, ◌∙◌, sym, arith, rules, Bool, cond, below_more, get_or, get_or-set_other, get_or-set_same}
+use Rattle.std.proofs.Common.{◌≡◌, ℕ, ◌/◌, ◌%◌, ◌^◌, ◌<◌, ◌≢◌, length, refl, ap, ◌∙◌, sym, arith, Bool, cond, below_more, get_or-set_other, get_or-set_same}
 use Rattle.std.specs.Prelude.{eqb}
 use Rattle.std.proofs.lemmas.List.{length-set}
 use Rattle.std.proofs.lemmas.Bool.{eq-eqb, ne_eqb}
@@ -36,8 +36,8 @@ loop-table-preserved c =
         | else-is_there w ↦ place_no c.args.stream.now t c.loop-table.at c.if-is_there.at c.loop-table.invariant.place (same ∙ ne_eqb _ 1 w.if-is_there.false) w.at-is
       ];
       filled = below_more _ _
-        (λ k h. let ne : k ≢ t = omega arith in rw get_or-set_other (c.loop-table.invariant.filled k h))
-        (rw get_or-set_same number);
+          (λ k h. let ne : k ≢ t = omega arith in rw get_or-set_other (c.loop-table.invariant.filled k h))
+          (rw get_or-set_same number);
       many = length-set c.loop-table.counts t c.number_if.result ∙ c.loop-table.invariant.many;
     }
 

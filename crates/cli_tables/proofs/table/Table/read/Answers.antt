@@ -1,6 +1,6 @@
-use Rattle.std.proofs.Common.{◌≡◌, ℕ, List, ◌+◌, ◌*◌, ◌++◌, ◌∷◌, [], ◌<◌, ◌≤◌, length, ap, sym, ◌∙◌, arith}
+use Rattle.std.proofs.Common.{◌≡◌, ◌+◌, ◌*◌, ◌<◌, ◌≤◌, length, ◌∙◌, arith}
 use Rattle.cli_tables.specs.Schema.{columns_of}
-use Rattle.cli_tables.specs.Stream.{width_of, kind_of, offset_of, row_width, strided}
+use Rattle.cli_tables.specs.Stream.{width_of, kind_of, offset_of, row_width}
 use Rattle.cli_tables.proofs.LayoutLaws.{cell_within, width_read, in_columns, offset_more, column_push}
 use Rattle.cli_tables.proofs.table.Table.read.Goals as goal
 

@@ -1,6 +1,6 @@
-use Rattle.std.proofs.Common.{◌≡◌, ◌∙◌, ◌≤◌, ◌<◌, ◌^◌, length, sym, ap, inl, inr, arith}
+use Rattle.std.proofs.Common.{◌∙◌, ◌<◌, ◌^◌, length, sym, ap, inl, arith}
 use Rattle.cil_base.specs.Refusals.{NoneBroken}
-use Rattle.cli_tables.specs.TableRules.{HeaderBroken, RowsBroken}
+use Rattle.cli_tables.specs.TableRules.{HeaderBroken}
 use Rattle.cli_tables.proofs.HeaderLaws.{refused_header, sound_header}
 use Rattle.cli_tables.proofs.ShapeLaws.{read_cells, read_shape, sound_rows, refused_rows}
 use Rattle.cli_tables.proofs.tables.Tables.read.Goals as goal
@@ -33,5 +33,5 @@ returns-in-Ok-clause-accepted c = sound_rows c.args.heaps.now.bytes c.tables-str
 pub returns-in-Err-clause-refused : goal.returns-in-Err-clause-refused
 returns-in-Err-clause-refused c =
     refused_rows c.args.heaps.now.bytes c.tables-stream.result.now c.args.assembly c.in-Err.fault c.tables-stream.ensures.bytes
-      (sound_header c.args.heaps.now.bytes c.tables-stream.result.now c.tables_offset.result c.args.assembly c.tables-stream.ensures.bytes c.tables_offset.ensures.offset (sym c.first_in_header.ensures ∙ c.in_default.is))
-      c.in-Err.ensures.refused
+    (sound_header c.args.heaps.now.bytes c.tables-stream.result.now c.tables_offset.result c.args.assembly c.tables-stream.ensures.bytes c.tables_offset.ensures.offset (sym c.first_in_header.ensures ∙ c.in_default.is))
+    c.in-Err.ensures.refused
