@@ -1,0 +1,6 @@
+pub mod Schema
+pub mod Stream
+pub mod Tables
+pub mod Layout
+pub mod TableRules
+pub mod CellRules

@@ -1,0 +1,90 @@
+// The tables of an assembly (ECMA-335, II.22).
+ghost use Rattle.std.specs.Prelude.{◌≡◌, ◌+◌, ◌-◌, ◌<◌, ◌≤◌, ◌^◌, ◌↔◌, length, map, IsSome, IfOk, OnOk};
+ghost use Rattle.cil_base.specs.Refusals.{First, NoneBroken, InTurn, OnRefused};
+ghost use Rattle.cli_heaps.specs.Root.{tables};
+ghost use Rattle.cli_tables.specs.TableRules.{HeaderBroken, RowsBroken};
+ghost use Rattle.lane_cols.specs.Places.{places};
+ghost use Rattle.cli_tables.specs.Schema.{columns_of};
+ghost use Rattle.cli_tables.specs.Tables.{column_of, rows_of, cell_of, HasCell, IsShaped, AreIn};
+
+use crate::header::first_in_header;
+use crate::reading::read_tables;
+use crate::sizes::{read_sizes, rows_start_of};
+use crate::table::Table;
+use cil_base::{Fault, U32s};
+use cli_heaps::Heaps;
+use lane_cols::places_of;
+use std::alloc::{AllocError, Global};
+use std::marker::Model;
+
+/// The tables, each as its columns. Rows count from 1, columns from 0, and a coded index is kept
+/// as the number that is written.
+#[derive(Debug, Drop)]
+pub struct Tables {
+    tables: Vec<Table>,
+}
+
+impl Model for Tables {
+    ghost use Rattle.std.specs.Prelude.{ℕ, List};
+    ghost use Rattle.cli_tables.specs.Tables.{IsShaped};
+
+    ghost Value = { List (List (List ℕ)) };
+
+    ghost view = { λ t. t.tables.items };
+
+    ghost invariant = { λ t. IsShaped t.tables.items };
+}
+
+impl Tables {
+    /// Reads the tables of the stream `#~` (II.24.2.6). A refusal names `assembly` and the first
+    /// broken place: M3 on the header; else, by table, row and column, M4 to M7.
+    pub fn read(alloc: Global, heaps: &Heaps<'_>, assembly: u32) -> Result<Tables, Fault>
+        ensures cells { IfOk result (AreIn (tables heaps.now.bytes)) }
+        ensures shaped { IfOk result IsShaped }
+        ensures header { OnOk result (NoneBroken (HeaderBroken heaps.now.bytes assembly)) }
+        ensures accepted { OnOk result (NoneBroken (RowsBroken heaps.now.bytes assembly)) }
+        ensures refused { OnRefused result (InTurn (HeaderBroken heaps.now.bytes assembly) (First (RowsBroken heaps.now.bytes assembly))) }
+    {
+        let stream = heaps.tables();
+        let _whole = rows_start_of(stream);
+        let _short = heaps.metadata();
+        let sizes = read_sizes(stream);
+        if let Some(refusal) = first_in_header(stream, &sizes, heaps.tables_offset(), assembly) {
+            return Err(Fault::Refused(refusal));
+        }
+        match read_tables(alloc, heaps, stream, &sizes, assembly) {
+            Ok(tables) => Ok(Tables { tables }),
+            Err(fault) => Err(fault),
+        }
+    }
+
+    /// How many rows a table has; none where it is not read.
+    pub fn rows(&self, table: u8) -> u32
+        ensures rows { result ≡ rows_of self.now table }
+        ensures shaped { IsShaped self.now }
+    {
+        self.column(table, 0).len() as u32
+    }
+
+    /// The cells of a column, by rising row; none where there is no such column.
+    pub fn column(&self, table: u8, column: u8) -> &[u32]
+        ensures cells { result.now ≡ column_of self.now table column }
+        ensures shaped { IsShaped self.now }
+    {
+        match self.tables.get(table as usize) {
+            None => &[],
+            Some(table) => table.column(column as usize),
+        }
+    }
+
+    /// The number in a cell, or None where there is no such cell.
+    pub fn cell(&self, table: u8, row: u32, column: u8) -> Option<u32>
+        ensures value { result ≡ cell_of self.now table row column }
+        ensures there { IsSome result ↔ HasCell self.now table row column }
+    {
+        if row == 0 {
+            return None;
+        }
+        self.column(table, column).get(row as usize - 1).copied()
+    }
+}

@@ -1,0 +1,94 @@
+// Tables that are read, or refused at a place.
+use crate::Tables;
+use cil_base::{Fault, Rule};
+use cli_heaps::Heaps;
+use std::alloc::{AllocError, Global};
+
+// The root with its stream headers, the heaps at 72 and 80, and `#~` at 84: one Module, two
+// TypeDef, one MethodDef and one Assembly row, whose rows begin at 124.
+static META: [u8; 198] = *b"BSJB\x01\0\x01\0\0\0\0\0\x04\0\0\0v1\0\0\0\0\x03\0\
+    \x54\0\0\0\x72\0\0\0#~\0\0\
+    \x48\0\0\0\x08\0\0\0#Strings\0\0\0\0\
+    \x50\0\0\0\x04\0\0\0#Blob\0\0\0\
+    \0ab\0cde\0\0\x01\x08\0\
+    \0\0\0\0\x02\0\0\x01\x45\0\0\0\x01\0\0\0\0\0\0\0\0\0\0\0\
+    \x01\0\0\0\x02\0\0\0\x01\0\0\0\x01\0\0\0\
+    \0\0\x01\0\0\0\0\0\0\0\
+    \0\0\0\0\x01\0\0\0\0\0\x01\0\x01\0\
+    \x01\0\0\0\x04\0\0\0\0\0\x01\0\x01\0\
+    \x50\x20\0\0\0\0\x06\0\x05\0\x01\0\x01\0\
+    \x04\x80\0\0\x01\0\x02\0\x03\0\x04\0\0\0\0\0\0\0\x01\0\0\0";
+
+type Answer = Option<(Rule, u8, u32, u32)>;
+
+/// What a read of the sample with one byte changed is refused by.
+fn fault(alloc: Global, place: usize, byte: u8) -> Result<Answer, AllocError> {
+    let mut meta = Vec::from_slice(alloc, &META)?;
+    if let Some(old) = meta.get_mut(place) {
+        *old = byte;
+    }
+    if meta.len() > 1000 {
+        return Ok(None);
+    }
+    match Heaps::read(&meta, 3) {
+        Err(_) => Ok(None),
+        Ok(heaps) => match Tables::read(alloc, &heaps, 3) {
+            Ok(_) => Ok(None),
+            Err(Fault::Refused(r)) => Ok(Some((r.rule, r.table, r.row, r.at))),
+            Err(Fault::Memory(e)) => Err(e),
+        },
+    }
+}
+
+#[test]
+fn each_rule_is_named_at_its_place(rt: HostRuntime) -> Result<(), AllocError> {
+    assert_eq!(rt; fault(rt.alloc(), 0, b'B')?, None);
+    for (place, byte, rule, table, row, at) in [
+        // HeapSizes, an unread table in Valid, two Assembly rows
+        (90, 8, Rule::M3, 0, 0, 90),
+        (92, 0x4D, Rule::M3, 0, 0, 92),
+        (120, 2, Rule::M3, 0, 0, 92),
+        // `#~` is one byte too short
+        (28, 113, Rule::M4, 0x20, 1, 0),
+        // Module.Name, MethodDef.Signature
+        (126, 9, Rule::M7, 0, 1, 1),
+        (172, 2, Rule::M7, 6, 1, 4),
+        // TypeDef.Extends names no TypeRef row, and has an unused tag
+        (142, 37, Rule::M5, 2, 1, 3),
+        (142, 3, Rule::M5, 2, 1, 3),
+        // FieldList may be one past the last row
+        (144, 2, Rule::M5, 2, 1, 4),
+        // MethodList falls from 2 to 1
+        (146, 2, Rule::M6, 2, 2, 5),
+    ] {
+        assert_eq!(rt;
+            fault(rt.alloc(), place, byte)?,
+            Some((rule, table, row, at)),
+            "at {place}"
+        );
+    }
+    Ok(())
+}
+
+#[test]
+fn cells_are_read(rt: HostRuntime) -> Result<(), AllocError> {
+    if let Ok(heaps) = Heaps::read(&META, 0) {
+        match Tables::read(rt.alloc(), &heaps, 0) {
+            Ok(tables) => {
+                assert_eq!(rt; (tables.rows(0), tables.rows(2), tables.rows(3)), (1, 2, 0));
+                assert_eq!(rt; tables.cell(2, 2, 1), Some(4));
+                assert_eq!(rt; tables.cell(6, 1, 0), Some(0x2050));
+                assert_eq!(rt; tables.cell(0x20, 1, 0), Some(0x8004));
+                assert_eq!(rt; tables.cell(0x20, 1, 4), Some(4));
+                assert_eq!(rt; tables.cell(2, 0, 0), None);
+                assert_eq!(rt; tables.cell(2, 3, 0), None);
+                assert_eq!(rt; tables.cell(2, 1, 6), None);
+                assert_eq!(rt; tables.cell(1, 1, 0), None);
+                return Ok(());
+            }
+            Err(_) => {}
+        }
+    }
+    assert!(rt; false);
+    Ok(())
+}
