@@ -2,7 +2,11 @@
 #![tactic(auto)]
 
 mod body;
+mod layout;
+mod opcode;
 mod ty;
 
 pub use body::{Body, Instr, Instrs, Operand, Region, RegionKind, Regions};
+pub use layout::{Layout, MethodHeader, RawClause, RawClauses, Section};
+pub use opcode::{find_opcode, opcodes, Class, Opcode, OperandKind};
 pub use ty::{Ty, Tys, Under};
