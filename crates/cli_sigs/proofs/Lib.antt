@@ -1,0 +1,4 @@
+pub mod Readers
+pub mod Longest
+pub mod Loops
+pub mod Packed

@@ -1,0 +1,7 @@
+pub mod Elements
+pub mod Methods
+pub mod Numbers
+pub mod Grammar
+pub mod Read
+pub mod Reading
+pub mod Answers
