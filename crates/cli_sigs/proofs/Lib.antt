@@ -2,3 +2,8 @@ pub mod Readers
 pub mod Longest
 pub mod Loops
 pub mod Packed
+pub mod Zeros
+pub mod TypeLaws
+pub mod LeafLaws
+pub mod BlobLaws
+pub mod KindLaws

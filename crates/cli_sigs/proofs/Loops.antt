@@ -2,7 +2,9 @@
 use Rattle.std.proofs.Common.{◌≡◌, ℕ, Option, Some, None, zero, suc, ◌+◌, ◌-◌, ◌<◌, ◌≤◌, List, [], ◌∷◌, ◌++◌, Result, Ok, Err, refl, sym, ap, subst, ◌∙◌, append_assoc, append-nil, arith}
 use Rattle.cli_sigs.specs.declared.types.SigTy.{SigTy}
 use Rattle.cli_sigs.specs.Read.{Outcome, Reader, and_then, ◌>>=◌, pure, maps, many, with_front, behind, marked}
-use Rattle.cli_sigs.specs.Reading.{open_params}
+use Rattle.cli_sigs.specs.declared.numbers.Stop.{Stop}
+use Rattle.cli_sigs.specs.declared.numbers.Stop.TheVariants as stop
+use Rattle.cli_sigs.specs.Reading.{open_params, Stops}
 
 step : {A : Type 0} (front : List A) (x : A) (o : Outcome (List A)) → with_front front (and_then o (λ xs. pure (x ∷ xs))) ≡ with_front (front ++ x ∷ []) o
 step {A = A} front x (Ok p) = ap (λ (l : List A). let o : Outcome (List A) = Ok (l, p.1) in o) (sym (append_assoc front (x ∷ []) p.0))
@@ -96,3 +98,8 @@ module _ (r : Reader SigTy) (front : List SigTy) (count k : ℕ) (rest : List �
   none_left h i =
       let none : count - k ≡ 0 = omega arith in
       sym i ∙ ap (λ (j : ℕ). with_params front (open_params r k j rest)) none ∙ simp append-nil
+
+-- a stop of one reader is a stop of another
+pub stops_along : {A B : Type 0} (s : Stop) (a : Outcome A) (b : Outcome B) → Stops s a → ((n : ℕ) → a ≡ Err n → b ≡ Err n) → Stops s b
+stops_along (stop.At n) a b h f = f n h
+stops_along (stop.Memory e) a b h f = tt
