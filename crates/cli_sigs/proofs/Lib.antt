@@ -7,3 +7,4 @@ pub mod TypeLaws
 pub mod LeafLaws
 pub mod BlobLaws
 pub mod KindLaws
+pub mod AttributeLaws

@@ -137,6 +137,9 @@ field_at d = this_byte 0x06 >>= (λ b. type_at d Plain)
 unfoldable pub list_at : ℕ → ℕ → Slot → Reader (List SigTy)
 list_at first d slot = this_byte first >>= (λ b. counted (type_at d slot))
 
+unfoldable pub attribute : Reader (List ℕ)
+attribute = this_byte 0x01 >>= (λ a. this_byte 0x00 >>= (λ b. counted (byte_where is_byte) >>= (λ text. this_byte 0x00 >>= (λ c. maps (λ d. text) (this_byte 0x00)))))
+
 -- ---- what a function of the program returned, seen by view
 
 abbrev pub Stops : {Y : Type 0} → Stop → Outcome Y → Type 0

@@ -2,12 +2,14 @@
 //! and printers.
 #![tactic(auto)]
 
+mod attribute;
 mod blobs;
 mod elements;
 mod numbers;
 mod reading;
 mod types;
 
+pub use attribute::read_type_attribute;
 pub use blobs::{
     read_field_sig, read_locals, read_method_sig, read_method_spec, read_property_sig, read_type_spec,
 };
