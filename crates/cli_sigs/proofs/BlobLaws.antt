@@ -59,7 +59,7 @@ module _ {X A : Type 0} (G : List ℕ → A → Type 0) (r : Reader A) (h : IsRe
   refused_ends rule place v [] result e c = subst (λ (a : Result A Fault). OnRefused a (AtLongest rule place G blob)) (sym c) tt
   refused_ends rule place v (b ∷ rest) result e c =
       subst (λ (a : Result A Fault). OnRefused a (AtLongest rule place G blob)) (sym c)
-        (length blob - length (b ∷ rest), refl, longest_before G r h blob (b ∷ rest) v e (omega arith))
+      (length blob - length (b ∷ rest), refl, longest_before G r h blob (b ∷ rest) v e (omega arith))
 
   refused_stopped : (rule : Rule) (place : Place) (s : Stop) (result : Result A Fault) → Stops s (r blob) → EndsStopped rule place blob s result → OnRefused result (AtLongest rule place G blob)
   refused_stopped rule place (stop.At n) result e c =

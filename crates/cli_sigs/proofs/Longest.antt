@@ -33,12 +33,12 @@ module _ {A : Type 0} (G : List ℕ → A → Type 0) (r : Reader A) (h : IsRead
   -- where each longer front goes wrong, this front is the longest
   longest : (bs front cs : List ℕ) (c : ℕ) → bs ≡ front ++ c ∷ cs → Begins G front → ((x : List ℕ) (v : A) → G (front ++ c ∷ x) v → ⊥) → IsLongest G bs (length front)
   longest bs front cs c e begins wrong = record {
-      within = omega (arith, length-append front (c ∷ cs), ap length e);
-      begins = subst (λ (l : List ℕ). Begins G l) (sym (ap (take (length front)) e ∙ take_at front (c ∷ cs) (length front) refl)) begins;
-      no_longer = λ n lt le b.
+    within = omega (arith, length-append front (c ∷ cs), ap length e);
+    begins = subst (λ (l : List ℕ). Begins G l) (sym (ap (take (length front)) e ∙ take_at front (c ∷ cs) (length front) refl)) begins;
+    no_longer = λ n lt le b.
         let p = past front c cs n lt in
         wrong (p.0 ++ b.0) b.1 (subst (λ (l : List ℕ). G l b.1) (ap (λ (l : List ℕ). l ++ b.0) (ap (take n) e ∙ p.1) ∙ append_assoc front (c ∷ p.0) b.0) b.2);
-    }
+  }
 
   pub longest_at_stop : (bs : List ℕ) (n : ℕ) → r bs ≡ Err n → IsLongest G bs (length bs - n)
   longest_at_stop bs zero e =

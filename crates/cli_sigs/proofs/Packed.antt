@@ -25,8 +25,8 @@ unfolding packed_after
 reads-after a =
     reads-choice _ _ _ _ _ (reads-pure a)
     (reads-choice _ _ _ _ _
-      (reads-maps _ _ _ any)
-      (reads-bind _ _ _ _ any (λ b f g. reads-bind _ _ _ _ any (λ c f g. reads-maps _ _ _ any))))
+    (reads-maps _ _ _ any)
+    (reads-bind _ _ _ _ any (λ b f g. reads-bind _ _ _ _ any (λ c f g. reads-maps _ _ _ any))))
 
 to_packed : (bs : List ℕ) (n : ℕ) → Then (IsByte is_head) After bs n → IsPacked bs n
 to_packed bs n (front, back, a, e, (f, h), inl (t, (g, v))) =
@@ -45,13 +45,23 @@ to_packed bs n (front, back, a, e, (f, h), inr (t, inr (u, (x1, y1, b, p1, (q1, 
 from_packed : (bs : List ℕ) (n : ℕ) → IsPacked bs n → Then (IsByte is_head) After bs n
 from_packed [] n h = absurd h
 from_packed (a ∷ []) n h = (a ∷ [], [], a, refl, (refl, lt-ltb a 224 (omega (arith, h.0))), inl (lt-ltb a 128 h.0, (refl, sym h.1)))
-from_packed (a ∷ b ∷ []) n h =
-    (a ∷ [], b ∷ [], a, refl, (refl, lt-ltb a 224 (omega (arith, h.1))),
-      inr (le-ltb a 128 h.0, inl (lt-ltb a 192 h.1, (b, (refl, lt-ltb b 256 h.2), omega (arith, h.0, h.3)))))
+from_packed (a ∷ b ∷ []) n h = (
+  a ∷ [],
+  b ∷ [],
+  a,
+  refl,
+  (refl, lt-ltb a 224 (omega (arith, h.1))),
+  inr (le-ltb a 128 h.0, inl (lt-ltb a 192 h.1, (b, (refl, lt-ltb b 256 h.2), omega (arith, h.0, h.3)))),
+)
 from_packed (a ∷ b ∷ c ∷ []) n h = absurd h
-from_packed (a ∷ b ∷ c ∷ d ∷ []) n h =
-    (a ∷ [], b ∷ c ∷ d ∷ [], a, refl, (refl, lt-ltb a 224 h.1),
-      inr (le-ltb a 128 (omega (arith, h.0)), inr (le-ltb a 192 h.0, (b ∷ [], c ∷ d ∷ [], b, refl, (refl, lt-ltb b 256 h.2), (c ∷ [], d ∷ [], c, refl, (refl, lt-ltb c 256 h.3), (d, (refl, lt-ltb d 256 h.4), omega (arith, h.0, h.5)))))))
+from_packed (a ∷ b ∷ c ∷ d ∷ []) n h = (
+  a ∷ [],
+  b ∷ c ∷ d ∷ [],
+  a,
+  refl,
+  (refl, lt-ltb a 224 h.1),
+  inr (le-ltb a 128 (omega (arith, h.0)), inr (le-ltb a 192 h.0, (b ∷ [], c ∷ d ∷ [], b, refl, (refl, lt-ltb b 256 h.2), (c ∷ [], d ∷ [], c, refl, (refl, lt-ltb c 256 h.3), (d, (refl, lt-ltb d 256 h.4), omega (arith, h.0, h.5)))))),
+)
 from_packed (a ∷ b ∷ c ∷ d ∷ e ∷ bs) n h = absurd h
 
 pub reads-packed : IsReader IsPacked packed

@@ -102,21 +102,21 @@ Nothing a bs b = (bs ≡ []) × (a ≡ b)
 
 pub reads-pure : {A : Type 0} (a : A) → IsReader (Nothing a) (pure a)
 reads-pure {A = A} a = record {
-    found = λ bs rest b e. let p = ok_is a b bs rest e in ([], p.1, (refl, p.0));
-    again = λ front rest b g. ap (λ (l : List ℕ). let o : Outcome A = Ok (a, l ++ rest) in o) g.0 ∙ ap (λ (x : A). let o : Outcome A = Ok (x, rest) in o) g.1;
-    short = λ bs e. absurd cc;
-    bad = λ bs m e. absurd cc;
-  }
+  found = λ bs rest b e. let p = ok_is a b bs rest e in ([], p.1, (refl, p.0));
+  again = λ front rest b g. ap (λ (l : List ℕ). let o : Outcome A = Ok (a, l ++ rest) in o) g.0 ∙ ap (λ (x : A). let o : Outcome A = Ok (x, rest) in o) g.1;
+  short = λ bs e. absurd cc;
+  bad = λ bs m e. absurd cc;
+}
 
 -- ---- another way to say the grammar
 
 pub same_grammar : {A : Type 0} (G H : List ℕ → A → Type 0) (r : Reader A) → IsReader G r → ((bs : List ℕ) (a : A) → G bs a → H bs a) → ((bs : List ℕ) (a : A) → H bs a → G bs a) → IsReader H r
 same_grammar G H r h to from = record {
-    found = λ bs rest a e. let x = h.found bs rest a e in (x.0, x.1, to x.0 a x.2);
-    again = λ front rest a g. h.again front rest a (from front a g);
-    short = λ bs e. let x = h.short bs e in (x.0, x.1, to (bs ++ x.0) x.1 x.2);
-    bad = h.bad;
-  }
+  found = λ bs rest a e. let x = h.found bs rest a e in (x.0, x.1, to x.0 a x.2);
+  again = λ front rest a g. h.again front rest a (from front a g);
+  short = λ bs e. let x = h.short bs e in (x.0, x.1, to (bs ++ x.0) x.1 x.2);
+  bad = h.bad;
+}
 
 -- ---- a byte
 

@@ -162,8 +162,19 @@ module _ (Parameter : List ℕ → SigTy → Type 0) (r : Reader SigTy) (h : IsR
       inl (ap (λ (l : List SigTy). length l) (sym types) ∙ ap suc len, subst (λ (l : List SigTy). Each Parameter bs l) types (f, b, e, g, each), sym (ap (λ (x : Pair). x.1) is) ∙ none)
   to_open k n bs p (inr (f, b, t, e, g, (q, inr (front, back, fixed, extra, e2, split, mark, len, one, two, some), is))) =
       let types : t ∷ q.0 ≡ p.0 = ap (λ (x : Pair). x.0) is in
-      inr (f ++ front, back, t ∷ fixed, extra, e ∙ ap (λ (l : List ℕ). f ++ l) e2 ∙ sym (append_assoc f front (0x41 ∷ back)), sym types ∙ ap (λ (l : List SigTy). t ∷ l) split,
-        sym (ap (λ (x : Pair). x.1) is) ∙ mark ∙ ap Some (omega arith), ap (λ (l : List SigTy). length l) (sym types) ∙ ap suc len, (f, front, refl, g, one), two, some)
+      inr (
+        f ++ front,
+        back,
+        t ∷ fixed,
+        extra,
+        e ∙ ap (λ (l : List ℕ). f ++ l) e2 ∙ sym (append_assoc f front (0x41 ∷ back)),
+        sym types ∙ ap (λ (l : List SigTy). t ∷ l) split,
+        sym (ap (λ (x : Pair). x.1) is) ∙ mark ∙ ap Some (omega arith),
+        ap (λ (l : List SigTy). length l) (sym types) ∙ ap suc len,
+        (f, front, refl, g, one),
+        two,
+        some,
+      )
 
   from_inl : (k n : ℕ) (bs : List ℕ) (ts : List SigTy) (s : Option ℕ) → length ts ≡ suc n → Each Parameter bs ts → s ≡ None → Step k n bs (ts, s)
   unfolding Open
@@ -208,9 +219,9 @@ module _ (Parameter : List ℕ → SigTy → Type 0) (r : Reader SigTy) (h : IsR
   reads-open zero k = same_grammar (Nothing ([], None)) (Open k 0) (pure ([], None)) (reads-pure ([], None)) (to_end k) (from_end k)
   reads-open (suc n) k = same_grammar (Step k n) (Open k (suc n)) _
       (reads-marked 0x41 _ _ _ _
-        (reads-maps (λ (ts : List SigTy). let p : Pair = (ts, Some k) in p) (Many Parameter (suc n)) (many (suc n) r) (reads-many Parameter r h (suc n)))
-        (reads-bind _ _ _ _ h (λ t f g. reads-maps (λ (p : Pair). let q : Pair = (t ∷ p.0, p.1) in q) (Open (k + 1) n) (open_params r (k + 1) n) (reads-open n (k + 1))))
-        (record { empty = ap (λ (o : Outcome SigTy). and_then o (next k n)) avoids.empty; refuses = λ rest. ap (λ (o : Outcome SigTy). and_then o (next k n)) (avoids.refuses rest) }))
+      (reads-maps (λ (ts : List SigTy). let p : Pair = (ts, Some k) in p) (Many Parameter (suc n)) (many (suc n) r) (reads-many Parameter r h (suc n)))
+      (reads-bind _ _ _ _ h (λ t f g. reads-maps (λ (p : Pair). let q : Pair = (t ∷ p.0, p.1) in q) (Open (k + 1) n) (open_params r (k + 1) n) (reads-open n (k + 1))))
+      (record { empty = ap (λ (o : Outcome SigTy). and_then o (next k n)) avoids.empty; refuses = λ rest. ap (λ (o : Outcome SigTy). and_then o (next k n)) (avoids.refuses rest) }))
       (to_open k n) (from_open k n)
     where
       next : ℕ → ℕ → SigTy → Reader Pair
@@ -223,10 +234,12 @@ module _ (Parameter : List ℕ → SigTy → Type 0) (r : Reader SigTy) (h : IsR
   to_params_open : (n : ℕ) (bs : List ℕ) (p : Pair) → Open 0 n bs p → Params true n bs p
   unfolding Open Params
   to_params_open n bs p (inl (len, each, none)) = (len, subst (λ (s : Option ℕ). IsParams Parameter true bs p.0 s) (sym none) (all_fixed each))
-  to_params_open n bs p (inr (front, back, fixed, extra, e, split, mark, len, one, two, some)) =
-      (len, subst (λ (s : Option ℕ). IsParams Parameter true bs p.0 s) (ap Some (omega arith) ∙ sym mark)
+  to_params_open n bs p (inr (front, back, fixed, extra, e, split, mark, len, one, two, some)) = (
+    len,
+    subst (λ (s : Option ℕ). IsParams Parameter true bs p.0 s) (ap Some (omega arith) ∙ sym mark)
         (subst (λ (l : List SigTy). IsParams Parameter true bs l (Some (length fixed))) (sym split)
-        (subst (λ (l : List ℕ). IsParams Parameter true l (fixed ++ extra) (Some (length fixed))) (sym e) (some_extra front back fixed extra refl one two some))))
+        (subst (λ (l : List ℕ). IsParams Parameter true l (fixed ++ extra) (Some (length fixed))) (sym e) (some_extra front back fixed extra refl one two some))),
+  )
 
   from_params_open : (n : ℕ) (bs : List ℕ) (ts : List SigTy) (s : Option ℕ) → length ts ≡ n → IsParams Parameter true bs ts s → Open 0 n bs (ts, s)
   unfolding Open
@@ -266,7 +279,7 @@ module _ (Inner : Slot → List ℕ → SigTy → Type 0) (inner : Slot → Read
       let all : f ∷ gs ++ (ns ++ (rs ++ rb)) ≡ bs = cc in
       subst (λ (l : List ℕ). IsMethod Inner kind l m) all
       (subst (λ (x : MethodSig). IsMethod Inner kind (f ∷ gs ++ (ns ++ (rs ++ rb))) x) is
-        (method gs ns rs rb fh gg (subst (λ (k : ℕ). IsPacked ns k) (sym len) pn) it ps))
+      (method gs ns rs rb fh gg (subst (λ (k : ℕ). IsPacked ns k) (sym len) pn) it ps))
 
   from_method : (kind : MethodKind) (bs : List ℕ) (m : MethodSig) → IsMethod Inner kind bs m → Method_parts kind bs m
   unfolding Params
@@ -282,7 +295,7 @@ module _ (Inner : Slot → List ℕ → SigTy → Type 0) (inner : Slot → Read
   unfolding method_at
   reads-method kind = same_grammar (Method_parts kind) (IsMethod Inner kind) _
       (reads-bind _ _ _ _ (first_byte kind) (λ f x y. reads-bind _ _ _ _ (reads-generics (is_generic f)) (λ g x y. reads-bind _ _ _ _ reads-packed (λ n x y. reads-bind _ _ _ _ (h (returned kind)) (λ t x y.
-        reads-maps (λ (p : List SigTy × Option ℕ). method_of f g t p.0 p.1) (Parts (is_vararg f) n) (params_after (is_vararg f) (inner Param) n) (reads-params (Inner Param) (inner Param) (h Param) avoids (is_vararg f) n))))))
+      reads-maps (λ (p : List SigTy × Option ℕ). method_of f g t p.0 p.1) (Parts (is_vararg f) n) (params_after (is_vararg f) (inner Param) n) (reads-params (Inner Param) (inner Param) (h Param) avoids (is_vararg f) n))))))
       (to_method kind) (from_method kind)
 
   -- ---- types

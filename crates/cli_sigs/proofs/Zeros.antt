@@ -26,7 +26,7 @@ unfolding nothing_after
 reads-after a =
     reads-choice _ _ _ _ _ (reads-pure 0)
     (reads-choice _ _ _ _ _ zero_byte
-      (reads-bind _ _ _ _ zero_byte (λ b f g. reads-bind _ _ _ _ zero_byte (λ c f g. zero_byte))))
+    (reads-bind _ _ _ _ zero_byte (λ b f g. reads-bind _ _ _ _ zero_byte (λ c f g. zero_byte))))
 
 third : (p q r : Bool) → (p || q || r) ≡ true → p ≡ false → q ≡ false → r ≡ true
 third true q r h a b = absurd cc

@@ -33,15 +33,15 @@ IsGenerics false bytes n = (bytes ≡ []) × (0 ≡ n)
 pub data IsParams (Parameter : List ℕ → SigTy → Type 0) (vararg : Bool) : List ℕ → List SigTy → Option ℕ → Type 0 where
   all_fixed : {bytes : List ℕ} {params : List SigTy} → Each Parameter bytes params → IsParams Parameter vararg bytes params None
   some_extra : (front back : List ℕ) (fixed extra : List SigTy) → vararg ≡ true → Each Parameter front fixed → Each Parameter back extra → 1 ≤ length extra
-    → IsParams Parameter vararg (front ++ 0x41 ∷ back) (fixed ++ extra) (Some (length fixed))
+      → IsParams Parameter vararg (front ++ 0x41 ∷ back) (fixed ++ extra) (Some (length fixed))
 
 abbrev pub method_of : ℕ → ℕ → SigTy → List SigTy → Option ℕ → MethodSig
 method_of flags generics result params sentinel = roll-MethodSig (record { flags = flags; generics = generics; result = result; params = params; sentinel = sentinel })
 
 pub data IsMethod (Inner : Slot → List ℕ → SigTy → Type 0) (kind : MethodKind) : List ℕ → MethodSig → Type 0 where
   method : {flags generics : ℕ} {result : SigTy} {params : List SigTy} {sentinel : Option ℕ} (gs ns rs ps : List ℕ)
-    → may_begin kind flags ≡ true → IsGenerics (is_generic flags) gs generics → IsPacked ns (length params) → Inner (returned kind) rs result → IsParams (Inner Param) (is_vararg flags) ps params sentinel
-    → IsMethod Inner kind (flags ∷ gs ++ (ns ++ (rs ++ ps))) (method_of flags generics result params sentinel)
+      → may_begin kind flags ≡ true → IsGenerics (is_generic flags) gs generics → IsPacked ns (length params) → Inner (returned kind) rs result → IsParams (Inner Param) (is_vararg flags) ps params sentinel
+      → IsMethod Inner kind (flags ∷ gs ++ (ns ++ (rs ++ ps))) (method_of flags generics result params sentinel)
 
 -- ---- types (II.23.2.7 to II.23.2.14)
 
@@ -62,13 +62,13 @@ pub data Layer (Inner : Slot → List ℕ → SigTy → Type 0) (slot : Slot) : 
   var : {bytes : List ℕ} {n : ℕ} → IsPacked bytes n → Layer Inner slot (0x13 ∷ bytes) (ty.Var n)
   mvar : {bytes : List ℕ} {n : ℕ} → IsPacked bytes n → Layer Inner slot (0x1E ∷ bytes) (ty.MVar n)
   array : {t : SigTy} {rank : ℕ} (sizes : List ℕ) (lows : List ℤ) (is rs ss ls : List ℕ) → Inner Plain is t → IsPacked rs rank → Counted IsPacked ss sizes → Counted IsSigned ls lows
-    → Layer Inner slot (0x14 ∷ is ++ (rs ++ (ss ++ ls))) (ty.Array t rank sizes lows)
+      → Layer Inner slot (0x14 ∷ is ++ (rs ++ (ss ++ ls))) (ty.Array t rank sizes lows)
   inst : {coded : ℕ} (value : Bool) (args : List SigTy) (cs ts : List ℕ) → IsPacked cs coded → Counted (Inner Plain) ts args
-    → Layer Inner slot (0x15 ∷ named_byte value ∷ cs ++ ts) (ty.Inst value coded args)
+      → Layer Inner slot (0x15 ∷ named_byte value ∷ cs ++ ts) (ty.Inst value coded args)
   func : {bytes : List ℕ} {m : MethodSig} → IsMethod Inner Pointer bytes m → Layer Inner slot (0x1B ∷ bytes) (ty.Func m)
   sz_array : {bytes : List ℕ} {t : SigTy} → Inner Plain bytes t → Layer Inner slot (0x1D ∷ bytes) (ty.SzArray t)
   modified : {coded : ℕ} {t : SigTy} (required : Bool) (cs ts : List ℕ) → IsPacked cs coded → Inner (kept slot) ts t
-    → Layer Inner slot (modifier_byte required ∷ cs ++ ts) (ty.Modified required coded t)
+      → Layer Inner slot (modifier_byte required ∷ cs ++ ts) (ty.Modified required coded t)
   pinned : {bytes : List ℕ} {t : SigTy} → allows_pinned slot ≡ true → Inner (kept slot) bytes t → Layer Inner slot (0x45 ∷ bytes) (ty.Pinned t)
 
 -- a type that is nested at most so deep: one more than the deepest of its parts

@@ -76,7 +76,10 @@ impl MethodKind {
     {
         match self {
             MethodKind::Method => {
-                matches!(b, 0x00 | 0x05 | 0x10 | 0x20 | 0x25 | 0x30 | 0x60 | 0x65 | 0x70)
+                matches!(
+                    b,
+                    0x00 | 0x05 | 0x10 | 0x20 | 0x25 | 0x30 | 0x60 | 0x65 | 0x70
+                )
             }
             MethodKind::Pointer => {
                 matches!(b, 0x00..=0x05 | 0x10 | 0x20..=0x25 | 0x30 | 0x60..=0x65 | 0x70)
@@ -112,7 +115,10 @@ impl Slot {
     {
         match b {
             0x01 => matches!(self, Slot::Pointed | Slot::Returned),
-            0x10 => matches!(self, Slot::Param | Slot::Returned | Slot::Local | Slot::Constrained),
+            0x10 => matches!(
+                self,
+                Slot::Param | Slot::Returned | Slot::Local | Slot::Constrained
+            ),
             0x16 => matches!(self, Slot::Param | Slot::Returned | Slot::Local),
             0x45 => matches!(self, Slot::Local | Slot::Constrained),
             _ => true,
@@ -123,7 +129,11 @@ impl Slot {
     pub fn element(self, b: u8) -> Option<Element>
         ensures { result ≡ element_in self b }
     {
-        if self.may_hold(b) { element_of(b) } else { None }
+        if self.may_hold(b) {
+            element_of(b)
+        } else {
+            None
+        }
     }
 }
 

@@ -7,11 +7,14 @@ mod blobs;
 mod elements;
 mod numbers;
 mod reading;
+#[cfg(test)]
+mod tests;
 mod types;
 
 pub use attribute::read_type_attribute;
 pub use blobs::{
-    read_field_sig, read_locals, read_method_sig, read_method_spec, read_property_sig, read_type_spec,
+    read_field_sig, read_locals, read_method_sig, read_method_spec, read_property_sig,
+    read_type_spec,
 };
 pub use elements::{Element, MethodKind, Slot};
 pub use types::{MethodSig, SigTy, SigTys};

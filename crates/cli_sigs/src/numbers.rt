@@ -88,7 +88,10 @@ fn packed_rest(a: u8, bytes: &[u8]) -> Result<(u32, &[u8]), Stop>
     let (c, bytes) = any_byte(bytes)?;
     let (d, bytes) = any_byte(bytes)?;
     let (c, d) = (u32::from(c), u32::from(d));
-    Ok((0x100_0000 * (a - 0xC0) + 0x1_0000 * b + 0x100 * c + d, bytes))
+    Ok((
+        0x100_0000 * (a - 0xC0) + 0x1_0000 * b + 0x100 * c + d,
+        bytes,
+    ))
 }
 
 /// A compressed unsigned number; a longer spelling than needed counts too.

@@ -41,13 +41,7 @@ fn after_sentinel(bytes: &[u8]) -> Option<&[u8]>
 {
     match bytes {
         [] => None,
-        [b, rest @ ..] => {
-            if *b == SENTINEL {
-                Some(rest)
-            } else {
-                None
-            }
-        }
+        [b, rest @ ..] => { if *b == SENTINEL { Some(rest) } else { None } }
     }
 }
 
@@ -70,7 +64,11 @@ fn first_byte(kind: MethodKind, bytes: &[u8]) -> Result<(u8, &[u8]), Stop>
 fn generics(generic: bool, bytes: &[u8]) -> Result<(u32, &[u8]), Stop>
     ensures { Gives (λ x. (x.0, x.1.now)) result (generics_after generic bytes.now) }
 {
-    if generic { packed(bytes) } else { Ok((0, bytes)) }
+    if generic {
+        packed(bytes)
+    } else {
+        Ok((0, bytes))
+    }
 }
 
 #[tactic(auto, unfolding(crate::specs::Reading::bare_inst))]
@@ -132,11 +130,16 @@ fn more_types(
 /// A count and so many types.
 #[cycle(reader)]
 #[tactic(auto, unfolding(crate::specs::Reading::counted))]
-pub fn types_of(alloc: Global, depth: u32, slot: Slot, bytes: &[u8]) -> Result<(SigTys, &[u8]), Stop>
+pub fn types_of(
+    alloc: Global,
+    depth: u32,
+    slot: Slot,
+    bytes: &[u8],
+) -> Result<(SigTys, &[u8]), Stop>
     ensures { Gives (λ x. (x.0, x.1.now)) result (counted (type_at depth slot) bytes.now) }
 {
-    let (count, bytes) = packed(bytes)?;
-    more_types(alloc, depth, slot, Items::new(alloc), count, bytes)
+    let (len, bytes) = packed(bytes)?;
+    more_types(alloc, depth, slot, Items::new(alloc), len, bytes)
 }
 
 #[cycle(reader)]
@@ -156,7 +159,15 @@ fn array_of(alloc: Global, depth: u32, bytes: &[u8]) -> Result<(SigTy, &[u8]), S
     let (rank, bytes) = packed(bytes)?;
     let (sizes, bytes) = packed_list(alloc, bytes)?;
     let (lows, bytes) = signed_list(alloc, bytes)?;
-    Ok((SigTy::Array { item, rank, sizes, lows }, bytes))
+    Ok((
+        SigTy::Array {
+            item,
+            rank,
+            sizes,
+            lows,
+        },
+        bytes,
+    ))
 }
 
 #[cycle(reader)]
@@ -193,7 +204,13 @@ fn open_params(alloc: Global, depth: u32, count: u32, bytes: &[u8]) -> Result<(P
 
 #[cycle(reader)]
 #[tactic(auto, unfolding(crate::specs::Reading::params_after))]
-fn read_params(alloc: Global, depth: u32, vararg: bool, count: u32, bytes: &[u8]) -> Result<(Params, &[u8]), Stop>
+fn read_params(
+    alloc: Global,
+    depth: u32,
+    vararg: bool,
+    count: u32,
+    bytes: &[u8],
+) -> Result<(Params, &[u8]), Stop>
     ensures { Gives (λ x. ((x.0.types, x.0.sentinel), x.1.now)) result (params_after vararg (type_at depth Slot.Param) count bytes.now) }
 {
     if vararg {
@@ -207,21 +224,47 @@ fn read_params(alloc: Global, depth: u32, vararg: bool, count: u32, bytes: &[u8]
 /// A method or a property whose types have at most `depth` further ones inside.
 #[cycle(reader)]
 #[tactic(auto, unfolding(crate::specs::Reading::method_at))]
-pub fn method_of(alloc: Global, depth: u32, kind: MethodKind, bytes: &[u8]) -> Result<(MethodSig, &[u8]), Stop>
+pub fn method_of(
+    alloc: Global,
+    depth: u32,
+    kind: MethodKind,
+    bytes: &[u8],
+) -> Result<(MethodSig, &[u8]), Stop>
     ensures { Gives (λ x. (x.0, x.1.now)) result (method_at kind (type_at depth) bytes.now) }
 {
     let (flags, bytes) = first_byte(kind, bytes)?;
     let (generics, bytes) = generics(is_generic(flags), bytes)?;
     let (count, bytes) = packed(bytes)?;
     let (result, bytes) = type_of(alloc, depth, kind.returned(), bytes)?;
-    let (Params { types: params, sentinel }, bytes) = read_params(alloc, depth, is_vararg(flags), count, bytes)?;
-    Ok((MethodSig { flags, generics, result, params, sentinel }, bytes))
+    let (
+        Params {
+            types: params,
+            sentinel,
+        },
+        bytes,
+    ) = read_params(alloc, depth, is_vararg(flags), count, bytes)?;
+    Ok((
+        MethodSig {
+            flags,
+            generics,
+            result,
+            params,
+            sentinel,
+        },
+        bytes,
+    ))
 }
 
 /// What stands behind the first byte of a type.
 #[cycle(reader)]
 #[tactic(auto, unfolding(crate::specs::Reading::type_after, crate::specs::Reading::modified_of))]
-fn after(alloc: Global, depth: u32, slot: Slot, element: Element, bytes: &[u8]) -> Result<(SigTy, &[u8]), Stop>
+fn after(
+    alloc: Global,
+    depth: u32,
+    slot: Slot,
+    element: Element,
+    bytes: &[u8],
+) -> Result<(SigTy, &[u8]), Stop>
     ensures { Gives (λ x. (x.0, x.1.now)) result (type_after (type_at depth) slot element bytes.now) }
 {
     match element {
@@ -257,9 +300,16 @@ fn after(alloc: Global, depth: u32, slot: Slot, element: Element, bytes: &[u8]) 
             Ok((SigTy::SzArray(inner), bytes))
         }
         Element::Modified(required) => {
-            let (coded, bytes) = packed(bytes)?;
+            let (modifier, bytes) = packed(bytes)?;
             let (inner, bytes) = boxed(alloc, depth, slot.kept(), bytes)?;
-            Ok((SigTy::Modified { required, coded, inner }, bytes))
+            Ok((
+                SigTy::Modified {
+                    required,
+                    coded: modifier,
+                    inner,
+                },
+                bytes,
+            ))
         }
         Element::Pinned => {
             let (inner, bytes) = boxed(alloc, depth, slot.kept(), bytes)?;

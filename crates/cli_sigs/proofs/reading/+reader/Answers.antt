@@ -17,7 +17,7 @@ open_params-returns-in_err-types t c =
     let r = type_at c.args.depth Param in
     let whole = open_params r 0 c.args.count c.args.bytes.now in
     let s : Stops c.in_err-types.field-0.0 whole = stops_along c.in_err-types.field-0.0 (with_front c.loop-k.types (many (c.args.count - c.loop-k.k) r c.in-Some.after.now)) whole c.in_err-types.ensures
-          (λ n e. extra_stop r c.loop-k.types c.args.count c.loop-k.k c.loop-k.rest.now whole c.in-Some.after.now n c.loop-k-test.true c.in-Some.ensures e c.loop-k.invariant) in
+    (λ n e. extra_stop r c.loop-k.types c.args.count c.loop-k.k c.loop-k.rest.now whole c.in-Some.after.now n c.loop-k-test.true c.in-Some.ensures e c.loop-k.invariant) in
     search rules
 
 pub open_params-returns-in-Some : goal.open_params-returns-in-Some
@@ -30,7 +30,7 @@ open_params-returns-in_err-one t c =
     let r = type_at c.args.depth Param in
     let whole = open_params r 0 c.args.count c.args.bytes.now in
     let s : Stops c.in_err-one.field-0.0 whole = stops_along c.in_err-one.field-0.0 (r c.loop-k.rest.now) whole c.in_err-one.ensures
-          (λ n e. one_stops r c.loop-k.types c.args.count c.loop-k.k c.loop-k.rest.now whole n c.loop-k-test.true c.in_default.ensures e c.loop-k.invariant) in
+    (λ n e. one_stops r c.loop-k.types c.args.count c.loop-k.k c.loop-k.rest.now whole n c.loop-k-test.true c.in_default.ensures e c.loop-k.invariant) in
     search rules
 
 pub open_params-loop-k-preserved : goal.open_params-loop-k-preserved
