@@ -1,0 +1,10 @@
+pub mod Readers
+pub mod Longest
+pub mod Loops
+pub mod Packed
+pub mod Zeros
+pub mod TypeLaws
+pub mod LeafLaws
+pub mod BlobLaws
+pub mod KindLaws
+pub mod AttributeLaws

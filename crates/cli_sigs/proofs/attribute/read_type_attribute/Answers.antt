@@ -1,0 +1,18 @@
+use Rattle.cil_base.specs.declared.rule.Rule.TheVariants.{S2}
+use Rattle.cli_sigs.specs.Attributes.{IsTypeAttribute}
+use Rattle.cli_sigs.specs.Reading.{attribute}
+use Rattle.cli_sigs.proofs.AttributeLaws.{reads-attribute}
+use Rattle.cli_sigs.proofs.BlobLaws.{reads_within, answers_found, answers_only, answers_refused}
+use Rattle.cli_sigs.proofs.attribute.read_type_attribute.Goals as goal
+
+pub whole-requires-clause-within : goal.whole-requires-clause-within
+whole-requires-clause-within c = reads_within IsTypeAttribute attribute reads-attribute (λ x. (x.0, x.1.now)) c.args.blob.now c.attribute_of-read.result c.attribute_of-read.ensures
+
+pub returns-clause-found : goal.returns-clause-found
+returns-clause-found c = answers_found IsTypeAttribute attribute reads-attribute (λ x. (x.0, x.1.now)) c.args.blob.now S2 c.args.place c.attribute_of-read.result c.whole.result c.attribute_of-read.ensures c.whole.ensures
+
+pub returns-clause-only : goal.returns-clause-only
+returns-clause-only c = answers_only IsTypeAttribute attribute reads-attribute (λ x. (x.0, x.1.now)) c.args.blob.now S2 c.args.place c.attribute_of-read.result c.whole.result c.attribute_of-read.ensures c.whole.ensures
+
+pub returns-clause-refused : goal.returns-clause-refused
+returns-clause-refused c = answers_refused IsTypeAttribute attribute reads-attribute (λ x. (x.0, x.1.now)) c.args.blob.now S2 c.args.place c.attribute_of-read.result c.whole.result c.attribute_of-read.ensures c.whole.ensures

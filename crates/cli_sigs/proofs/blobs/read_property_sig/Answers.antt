@@ -1,0 +1,20 @@
+use Rattle.cil_base.specs.declared.rule.Rule.TheVariants.{S1}
+use Rattle.cli_sigs.specs.declared.elements.Slot.TheVariants.{Plain, Local}
+use Rattle.cli_sigs.specs.declared.elements.MethodKind.TheVariants.{Method, Property}
+use Rattle.cli_sigs.specs.Grammar.{IsPropertySig}
+use Rattle.cli_sigs.specs.Reading.{type_at, method_at, field_at, list_at}
+use Rattle.cli_sigs.proofs.KindLaws.{reads-methods, reads-spec, reads-field, reads-list}
+use Rattle.cli_sigs.proofs.BlobLaws.{reads_within, answers_found, answers_only, answers_refused}
+use Rattle.cli_sigs.proofs.blobs.read_property_sig.Goals as goal
+
+pub whole-requires-clause-within : goal.whole-requires-clause-within
+whole-requires-clause-within c = reads_within IsPropertySig (method_at Property (type_at 999)) (reads-methods Property) (λ x. (x.0, x.1.now)) c.args.blob.now c.method_of-read.result c.method_of-read.ensures
+
+pub returns-clause-found : goal.returns-clause-found
+returns-clause-found c = answers_found IsPropertySig (method_at Property (type_at 999)) (reads-methods Property) (λ x. (x.0, x.1.now)) c.args.blob.now S1 c.args.place c.method_of-read.result c.whole.result c.method_of-read.ensures c.whole.ensures
+
+pub returns-clause-only : goal.returns-clause-only
+returns-clause-only c = answers_only IsPropertySig (method_at Property (type_at 999)) (reads-methods Property) (λ x. (x.0, x.1.now)) c.args.blob.now S1 c.args.place c.method_of-read.result c.whole.result c.method_of-read.ensures c.whole.ensures
+
+pub returns-clause-refused : goal.returns-clause-refused
+returns-clause-refused c = answers_refused IsPropertySig (method_at Property (type_at 999)) (reads-methods Property) (λ x. (x.0, x.1.now)) c.args.blob.now S1 c.args.place c.method_of-read.result c.whole.result c.method_of-read.ensures c.whole.ensures

@@ -1,0 +1,20 @@
+use Rattle.cil_base.specs.declared.rule.Rule.TheVariants.{S1}
+use Rattle.cli_sigs.specs.declared.elements.Slot.TheVariants.{Plain, Local}
+use Rattle.cli_sigs.specs.declared.elements.MethodKind.TheVariants.{Method, Property}
+use Rattle.cli_sigs.specs.Grammar.{IsTypeSpec}
+use Rattle.cli_sigs.specs.Reading.{type_at, method_at, field_at, list_at}
+use Rattle.cli_sigs.proofs.KindLaws.{reads-methods, reads-spec, reads-field, reads-list}
+use Rattle.cli_sigs.proofs.BlobLaws.{reads_within, answers_found, answers_only, answers_refused}
+use Rattle.cli_sigs.proofs.blobs.read_type_spec.Goals as goal
+
+pub whole-requires-clause-within : goal.whole-requires-clause-within
+whole-requires-clause-within c = reads_within IsTypeSpec (type_at 999 Plain) (reads-spec Plain) (λ x. (x.0, x.1.now)) c.args.blob.now c.type_of-read.result c.type_of-read.ensures
+
+pub returns-clause-found : goal.returns-clause-found
+returns-clause-found c = answers_found IsTypeSpec (type_at 999 Plain) (reads-spec Plain) (λ x. (x.0, x.1.now)) c.args.blob.now S1 c.args.place c.type_of-read.result c.whole.result c.type_of-read.ensures c.whole.ensures
+
+pub returns-clause-only : goal.returns-clause-only
+returns-clause-only c = answers_only IsTypeSpec (type_at 999 Plain) (reads-spec Plain) (λ x. (x.0, x.1.now)) c.args.blob.now S1 c.args.place c.type_of-read.result c.whole.result c.type_of-read.ensures c.whole.ensures
+
+pub returns-clause-refused : goal.returns-clause-refused
+returns-clause-refused c = answers_refused IsTypeSpec (type_at 999 Plain) (reads-spec Plain) (λ x. (x.0, x.1.now)) c.args.blob.now S1 c.args.place c.type_of-read.result c.whole.result c.type_of-read.ensures c.whole.ensures

@@ -1,0 +1,20 @@
+//! Signatures and the texts of contract attributes (ECMA-335, II.23.2 and II.23.3): values, readers
+//! and printers.
+#![tactic(auto)]
+
+mod attribute;
+mod blobs;
+mod elements;
+mod numbers;
+mod reading;
+#[cfg(test)]
+mod tests;
+mod types;
+
+pub use attribute::read_type_attribute;
+pub use blobs::{
+    read_field_sig, read_locals, read_method_sig, read_method_spec, read_property_sig,
+    read_type_spec,
+};
+pub use elements::{Element, MethodKind, Slot};
+pub use types::{MethodSig, SigTy, SigTys};
