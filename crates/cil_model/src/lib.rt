@@ -2,7 +2,26 @@
 #![tactic(auto)]
 
 mod body;
+mod contract;
+mod methods;
+mod program;
+mod run;
+mod tree;
 mod ty;
+mod value;
 
 pub use body::{Body, Instr, Instrs, Operand, Region, RegionKind, Regions};
+pub use contract::{
+    Capture, Captures, Clause, ClauseKind, ClauseLists, Clauses, Contract, ContractList, Contracts,
+    Effective, EffectiveList, Group, Level, Names, Old, Olds, OwnContracts, Runtime, Settings,
+    TyRef, TyRefs,
+};
+pub use methods::MethodDescs;
+pub use program::{
+    FieldDesc, FieldDescs, Impl, Impls, Kind, Meaning, MethodDesc, Program, Source, Sources, TokenRow,
+    TokenRows, TypeDesc, TypeDescs,
+};
+pub use run::{Outcome, Replies, Reply, ReplyResult, RunResult, Trace, TraceItem};
+pub use tree::{Block, Blocks, Handler, Handlers, Tree};
 pub use ty::{Ty, Tys, Under};
+pub use value::{Pointer, Value, Values};
