@@ -3,4 +3,3 @@ pub mod SmallCode
 pub mod NoContracts
 pub mod MethodLists
 pub mod Programs
-pub mod Types

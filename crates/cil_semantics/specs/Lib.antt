@@ -1,0 +1,9 @@
+pub mod Words
+pub mod Types
+pub mod Core
+pub mod Lookups
+pub mod Dispatch
+pub mod Numbers
+pub mod Places
+pub mod State
+pub mod Classes
