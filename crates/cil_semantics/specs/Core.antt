@@ -1,5 +1,5 @@
 -- The types of the standard library that a run knows, by name (ECMA-335, Partition IV).
-use Rattle.std.specs.Prelude.{ℕ, ◌-◌, Bool, true, false, ◌||◌, bytes_eq, if◌then◌else◌, List, [], ◌∷◌, length, drop, Option, Some, None, codes, find, option_map}
+use Rattle.std.specs.Prelude.{ℕ, ◌-◌, Bool, true, false, ◌||◌, ◌==◌, bytes_eq, if◌then◌else◌, List, [], ◌∷◌, length, drop, Option, Some, None, codes, find, option_map}
 use Rattle.cil_model.specs.declared.ty.Ty.{Ty, Prim, Outside}
 
 abbrev pub Name : Type 0
@@ -68,3 +68,18 @@ outside_base name value = base_or (find (λ (row : Name × Ty). bytes_eq row.0 n
 
 abbrev pub contract_name : Name
 contract_name = codes "System.Diagnostics.Contracts.Contract"
+
+-- the names of the types that are one byte in signatures (ECMA-335, II.23.1.16)
+unfoldable pub prim_names : List (ℕ × Name)
+prim_names =
+    (0x01, codes "System.Void") ∷ (0x02, codes "System.Boolean") ∷ (0x03, codes "System.Char") ∷ (0x04, codes "System.SByte") ∷ (0x05, codes "System.Byte")
+    ∷ (0x06, codes "System.Int16") ∷ (0x07, codes "System.UInt16") ∷ (0x08, codes "System.Int32") ∷ (0x09, codes "System.UInt32") ∷ (0x0A, codes "System.Int64") ∷ (0x0B, codes "System.UInt64")
+    ∷ (0x0C, codes "System.Single") ∷ (0x0D, codes "System.Double") ∷ (0x0E, codes "System.String") ∷ (0x16, codes "System.TypedReference") ∷ (0x18, codes "System.IntPtr") ∷ (0x19, codes "System.UIntPtr")
+    ∷ (0x1C, codes "System.Object") ∷ []
+
+abbrev pub name_or_none : Option (ℕ × Name) → Name
+name_or_none None = []
+name_or_none (Some row) = row.1
+
+unfoldable pub prim_name : ℕ → Name
+prim_name b = name_or_none (find (λ (row : ℕ × Name). row.0 == b) prim_names)

@@ -7,3 +7,6 @@ pub mod Numbers
 pub mod Places
 pub mod State
 pub mod Classes
+pub mod Tokens
+pub mod Acts
+pub mod Instructions
