@@ -3,3 +3,4 @@ pub mod SmallCode
 pub mod NoContracts
 pub mod MethodLists
 pub mod Programs
+pub mod Texts

@@ -10,3 +10,5 @@ pub mod Classes
 pub mod Tokens
 pub mod Acts
 pub mod Instructions
+pub mod Contracted
+pub mod Unwind
