@@ -12,3 +12,4 @@ pub mod Acts
 pub mod Instructions
 pub mod Contracted
 pub mod Unwind
+pub mod Frames

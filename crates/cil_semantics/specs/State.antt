@@ -76,10 +76,11 @@ pub data Left : Type 0 where
   Numbers : (from to : ℤ) → Left
   Items_of : (object from : ℕ) → Left
 
--- What happens below when a frame returns: its value is pushed; what the constructor made is pushed; an exception that it made is thrown; the frame below begins; a static field is used; or ForAll or Exists goes on.
+-- What happens below when a frame returns: its value is pushed; the object or the struct that the constructor made is pushed; an exception that it made is thrown; the frame below begins; a static field is used; or ForAll or Exists goes on.
 pub data Back : Type 0 where
   Pushes : Back
   Makes : Value → Back
+  Makes_struct : Back
   Then_throws : (object : ℕ) → Back
   Begins : Back
   Uses : Access → Back
