@@ -13,3 +13,4 @@ pub mod Instructions
 pub mod Contracted
 pub mod Unwind
 pub mod Frames
+pub mod Outside
