@@ -14,3 +14,5 @@ pub mod Contracted
 pub mod Unwind
 pub mod Frames
 pub mod Outside
+pub mod Returns
+pub mod Calls
