@@ -16,3 +16,5 @@ pub mod Frames
 pub mod Outside
 pub mod Returns
 pub mod Calls
+pub mod Checks
+pub mod Machine
