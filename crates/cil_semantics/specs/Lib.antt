@@ -18,3 +18,4 @@ pub mod Returns
 pub mod Calls
 pub mod Checks
 pub mod Machine
+pub mod Simulation

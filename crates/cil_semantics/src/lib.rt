@@ -1,4 +1,6 @@
 //! What a run of a program means, with and without contracts.
 #![tactic(auto)]
 
-ghost use Rattle.std.specs.Prelude.{◌≡◌};
+mod simulation;
+
+pub use simulation::{Simulation, lifting};
