@@ -18,8 +18,8 @@ pub use contract::{
 };
 pub use methods::MethodDescs;
 pub use program::{
-    FieldDesc, FieldDescs, Impl, Impls, Kind, Meaning, MethodDesc, Program, Source, Sources, TokenRow,
-    TokenRows, TypeDesc, TypeDescs,
+    FieldDesc, FieldDescs, Impl, Impls, Kind, Meaning, MethodDesc, Program, Source, Sources,
+    TokenRow, TokenRows, TypeDesc, TypeDescs,
 };
 pub use run::{Outcome, Replies, Reply, ReplyResult, RunResult, Trace, TraceItem};
 pub use tree::{Block, Blocks, Handler, Handlers, Tree};

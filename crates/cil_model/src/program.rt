@@ -110,7 +110,9 @@ pub struct TokenRow {
 
 pub type TokenRows = Items<TokenRow>;
 
-/// The program of a set. TARGET's types, fields and methods stand first, each in row order.
+/// The program of a set. The numbers of types, fields and methods don't move when rows are appended
+/// to TARGET: those of the other assemblies come first, in assembly and row order, then TARGET's,
+/// then those outside, TARGET's rows walked last, and at the end those of `__ContractsRuntime`.
 #[derive(Debug, Drop)]
 pub struct Program {
     pub types: TypeDescs,

@@ -44,10 +44,20 @@ pub enum Outcome {
 /// What a run of so many steps came to.
 #[derive(Debug, Drop)]
 pub enum RunResult {
-    Ended { outcome: Outcome, trace: Trace, steps: u64 },
-    OutOfSteps { trace: Trace },
+    Ended {
+        outcome: Outcome,
+        trace: Trace,
+        steps: u64,
+    },
+    OutOfSteps {
+        trace: Trace,
+    },
     /// The run's cells reach 2^24.
-    HeapFull { trace: Trace },
+    HeapFull {
+        trace: Trace,
+    },
     /// The run's frames reach 2^20.
-    FramesFull { trace: Trace },
+    FramesFull {
+        trace: Trace,
+    },
 }

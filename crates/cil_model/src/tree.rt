@@ -9,7 +9,10 @@ use sqlite_items::Items;
 #[derive(Debug, Drop)]
 pub enum Block {
     Code(Items<Instr>),
-    Guarded { inner: Items<Block>, handlers: Items<Handler> },
+    Guarded {
+        inner: Items<Block>,
+        handlers: Items<Handler>,
+    },
 }
 
 /// A handler and its code.

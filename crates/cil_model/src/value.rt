@@ -8,12 +8,29 @@ use sqlite_items::Items;
 /// it and `method` is the method that it runs. `path` leads from a cell to a field of a struct in it.
 #[derive(Debug, Drop)]
 pub enum Pointer {
-    Arg { frame: u64, method: u32, index: u32, path: U32s },
-    Local { frame: u64, method: u32, index: u32, path: U32s },
+    Arg {
+        frame: u64,
+        method: u32,
+        index: u32,
+        path: U32s,
+    },
+    Local {
+        frame: u64,
+        method: u32,
+        index: u32,
+        path: U32s,
+    },
     /// A cell of an object, by its number in the path.
-    Inside { object: u32, path: U32s },
+    Inside {
+        object: u32,
+        path: U32s,
+    },
     /// A static field of a closed type.
-    Static { owner: Ty, field: u32, path: U32s },
+    Static {
+        owner: Ty,
+        field: u32,
+        path: U32s,
+    },
 }
 
 /// A value on the stack, in a cell, or in the text of a run (ECMA-335, III.1.1).
@@ -31,7 +48,11 @@ pub enum Value {
     /// A struct of the set, with one value for each instance field.
     Struct(Items<Value>),
     /// A method with the arguments of its type and its own.
-    Func { method: u32, type_args: Tys, method_args: Tys },
+    Func {
+        method: u32,
+        type_args: Tys,
+        method_args: Tys,
+    },
     /// A value that is carried along unread.
     Opaque(Bytes),
 }

@@ -1,11 +1,11 @@
 -- From one step to whole runs, for any two machines.
-use Rattle.std.proofs.Common.{◌≡◌, ℕ, zero, suc, ◌+◌, ◌-◌, ◌*◌, ◌<◌, ◌≤◌, List, [], ◌∷◌, ◌++◌, length, refl, sym, ap, ◌∙◌, subst, ⊎_elim, arith, append_assoc}
+use Rattle.std.proofs.Common.{◌≡◌, ℕ, zero, suc, ◌+◌, ◌-◌, ◌*◌, ◌≤◌, List, [], ◌++◌, refl, sym, ap, ◌∙◌, subst, ⊎_elim, arith, append_assoc}
 use Rattle.std.proofs.lemmas.Bool.{cases_lt}
 use Rattle.std.proofs.lemmas.List.{append-nil}
 use Rattle.cil_model.specs.declared.run.Outcome.{Outcome}
 use Rattle.cil_semantics.specs.State.{World, Item, State, Next, Goes, Ends}
 use Rattle.cil_semantics.specs.Machine.{and_then, runs}
-use Rattle.cil_semantics.specs.Simulation.{IsPrefix, trace_of, Grows, weight, Match, Simulates, Lifted, Lifts}
+use Rattle.cil_semantics.specs.Simulation.{IsPrefix, trace_of, Grows, weight, Match, Simulates, Lifts}
 
 pub prefix_refl : (xs : List Item) → IsPrefix xs xs
 prefix_refl xs = ([], sym (append-nil xs))

@@ -1,17 +1,16 @@
 -- Calls: core members, members outside, bodies, virtual calls and new objects (ECMA-335, III.3.19, III.4.2, III.4.21, III.2.1).
-use Rattle.std.specs.Prelude.{ℕ, zero, suc, ◌+◌, ◌%◌, ◌^◌, Bool, true, false, ◌&&◌, ◌||◌, ◌==◌, not, bytes_eq, if◌then◌else◌, List, [], ◌∷◌, ◌++◌, length, map, find, slice_get, Option, Some, None, option_map, option_and_then, is_some, codes, pos, ℤ}
+use Rattle.std.specs.Prelude.{ℕ, Bool, true, false, ◌&&◌, ◌||◌, ◌==◌, not, bytes_eq, if◌then◌else◌, List, [], ◌∷◌, ◌++◌, length, map, Option, Some, None, option_map, option_and_then, is_some, codes, pos, ℤ}
 use Rattle.cil_model.specs.declared.ty.Ty.{Ty, out-Ty, Prim}
 use Rattle.cil_model.specs.declared.ty.Ty.TheOpen.{Ty-F}
-use Rattle.cil_model.specs.declared.value.Value.{Value, out-Value, I4, Null, Obj, Text, Ptr}
+use Rattle.cil_model.specs.declared.value.Value.{Value, out-Value, I4, Obj, Text, Ptr}
 use Rattle.cil_model.specs.declared.value.Value.TheOpen.{Value-F}
 use Rattle.cil_model.specs.declared.value.Value.TheVariants as value
 use Rattle.cil_model.specs.declared.value.Pointer.{Pointer}
 use Rattle.cil_model.specs.declared.value.Pointer.TheVariants.{Inside}
 use Rattle.cil_model.specs.declared.contract.Contracts.{Contracts}
 use Rattle.cil_model.specs.declared.program.Program.{Program}
-use Rattle.cil_model.specs.declared.program.MethodDesc.{MethodDesc}
 use Rattle.cil_model.specs.declared.program.Kind.{Kind}
-use Rattle.cil_model.specs.declared.program.Kind.TheVariants.{Class, Interface, Struct, Enumeration, Delegate}
+use Rattle.cil_model.specs.declared.program.Kind.TheVariants.{Delegate}
 use Rattle.cil_semantics.specs.Words.{any, maybe}
 use Rattle.cil_semantics.specs.Types.{same_ty, same_tys}
 use Rattle.cil_semantics.specs.Core.{Name, class, object_ty, string_ty, core_classes, contract_name}
@@ -19,10 +18,10 @@ use Rattle.cil_semantics.specs.Lookups.{type_of, method_of, args_of, in_set, is_
 use Rattle.cil_semantics.specs.Dispatch.{Seen, body_for}
 use Rattle.cil_semantics.specs.Numbers.{cut}
 use Rattle.cil_semantics.specs.Places.{Cell, holds, is_reference, layout, first_cells, new_cell}
-use Rattle.cil_semantics.specs.State.{Object, World, Local, Frame, Next, Back, Pushes, Makes, Tries, Left, Numbers, Items_of, pushed, object_at, next_object, with_object}
+use Rattle.cil_semantics.specs.State.{Object, World, Frame, Next, Back, Pushes, Makes, Numbers, Items_of, object_at, next_object, with_object}
 use Rattle.cil_semantics.specs.Acts.{Call, ty_name, dynamic_type, is_null, item_type, flag}
 use Rattle.cil_semantics.specs.Unwind.{raise, unwind}
-use Rattle.cil_semantics.specs.Frames.{stuck, if_there, go_on, go_on_top, read, enter, enter_struct, enter_delegate, next_try}
+use Rattle.cil_semantics.specs.Frames.{stuck, if_there, read, enter, enter_struct, enter_delegate, next_try}
 use Rattle.cil_semantics.specs.Outside.{Answer, Answers, Throws_out, Unfit, ask, ask_new, member_of, is_outside}
 use Rattle.cil_semantics.specs.Returns.{push_below, try_next}
 

@@ -1,14 +1,12 @@
 -- Contract calls in a call with contracts: conditions, old values, results, and failures (Code Contracts User Manual, sections 2 and 7).
-use Rattle.std.specs.Prelude.{ℕ, zero, suc, ◌+◌, ◌-◌, ◌%◌, Bool, true, false, ◌&&◌, ◌||◌, ◌==◌, not, bytes_eq, nat_lt, nat_le, if◌then◌else◌, List, [], ◌∷◌, ◌++◌, length, map, take, find, slice_get, slice_set, get_or, Option, Some, None, option_map, option_and_then, pos, codes}
+use Rattle.std.specs.Prelude.{ℕ, ◌+◌, ◌%◌, Bool, true, false, ◌&&◌, ◌||◌, ◌==◌, bytes_eq, if◌then◌else◌, List, [], ◌∷◌, ◌++◌, length, find, slice_get, slice_set, Option, Some, None, option_map, option_and_then, pos, codes}
 use Rattle.cil_model.specs.declared.ty.Ty.{Ty, out-Ty, Prim, Known, Outside}
-use Rattle.cil_model.specs.declared.value.Value.{Value, out-Value, I4, Null, Obj, Text}
+use Rattle.cil_model.specs.declared.value.Value.{Value, out-Value, I4, Null, Text}
 use Rattle.cil_model.specs.declared.value.Value.TheOpen.{Value-F}
 use Rattle.cil_model.specs.declared.body.Instr.{Instr}
-use Rattle.cil_model.specs.declared.body.Operand.{Operand}
-use Rattle.cil_model.specs.declared.body.Operand.TheVariants.{Nothing, Int, Index, Target, Targets, Tok}
 use Rattle.cil_model.specs.declared.program.Program.{Program}
 use Rattle.cil_model.specs.declared.program.Meaning.{Meaning}
-use Rattle.cil_model.specs.declared.program.Meaning.TheVariants.{OfType, OfField, OfMethod, OfText, OfLocals}
+use Rattle.cil_model.specs.declared.program.Meaning.TheVariants.{OfMethod}
 use Rattle.cil_model.specs.declared.contract.Clause.{Clause}
 use Rattle.cil_model.specs.declared.contract.Old.{Old}
 use Rattle.cil_model.specs.declared.contract.Contracts.{Contracts}
@@ -19,15 +17,15 @@ use Rattle.cil_model.specs.Texts.{text_units}
 use Rattle.cil_semantics.specs.Words.{maybe, or_else}
 use Rattle.cil_semantics.specs.Types.{same_tys}
 use Rattle.cil_semantics.specs.Core.{Name, class, string_ty, failure_kind, contract_name}
-use Rattle.cil_semantics.specs.Lookups.{type_of, method_of, in_set}
+use Rattle.cil_semantics.specs.Lookups.{method_of, in_set}
 use Rattle.cil_semantics.specs.Dispatch.{methods_of, is_public}
-use Rattle.cil_semantics.specs.Places.{Holds, Cut, Reference, Anything, Cell, stored, set_cell}
+use Rattle.cil_semantics.specs.Places.{Cut, Reference, stored, set_cell}
 use Rattle.cil_semantics.specs.State as state
 use Rattle.cil_semantics.specs.State.{Object, World, At, Lead, In, Rest, Frame, Next, Then_throws, Back, pushed, with_stack, next_object, with_object}
 use Rattle.cil_semantics.specs.Tokens.{Here, meaning_here, ref_type}
 use Rattle.cil_semantics.specs.Acts.{ty_name, isnt_zero}
-use Rattle.cil_semantics.specs.Contracted.{Piece, Plan, rank, is_inline}
-use Rattle.cil_semantics.specs.Unwind.{body_of, here_of, unwind}
+use Rattle.cil_semantics.specs.Contracted.{Piece, Plan, rank}
+use Rattle.cil_semantics.specs.Unwind.{here_of, unwind}
 use Rattle.cil_semantics.specs.Frames.{stuck, if_there, go_on}
 use Rattle.cil_semantics.specs.Outside.{Answer, Answers, Throws_out, Unfit, Member, ask, ask_new}
 use Rattle.cil_semantics.specs.Returns.{piece_over}
@@ -246,8 +244,8 @@ check_inline p k g plan c home label i f fs w =
     let message : Bool = has_message p (meaning_here p (here_of f fs) i) in
     if rank plan.settings.level == 4
     then if_there (condition_in message f.local.stack) w (λ (x : Condition).
-        let l : state.Local = with_stack f.local x.rest in
-        check p k g (record { kind = c; exception = None; home = home; user = x.user; label = label }) x.holds (record f { local = l } ∷ fs) w (λ v. go_on p k f l fs v))
+    let l : state.Local = with_stack f.local x.rest in
+    check p k g (record { kind = c; exception = None; home = home; user = x.user; label = label }) x.holds (record f { local = l } ∷ fs) w (λ v. go_on p k f l fs v))
     else if_there (dropped message f.local.stack) w (λ rest. go_on p k f (with_stack f.local rest) fs w)
 
 -- the call that ends a clause

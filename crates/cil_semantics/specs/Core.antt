@@ -1,5 +1,5 @@
 -- The types of the standard library that a run knows, by name (ECMA-335, Partition IV).
-use Rattle.std.specs.Prelude.{ℕ, ◌-◌, Bool, true, false, ◌||◌, ◌==◌, bytes_eq, if◌then◌else◌, List, [], ◌∷◌, length, drop, Option, Some, None, codes, find, option_map}
+use Rattle.std.specs.Prelude.{ℕ, ◌-◌, Bool, false, ◌||◌, ◌==◌, bytes_eq, if◌then◌else◌, List, [], ◌∷◌, length, drop, Option, Some, None, codes, find}
 use Rattle.cil_model.specs.declared.ty.Ty.{Ty, Prim, Outside}
 
 abbrev pub Name : Type 0

@@ -1,17 +1,16 @@
 -- Types, fields and methods of a program by their numbers, and the types of which a closed type is a sub.
-use Rattle.std.specs.Prelude.{ℕ, zero, suc, ◌+◌, Bool, true, false, ◌&&◌, ◌||◌, ◌==◌, not, if◌then◌else◌, List, [], ◌∷◌, ◌++◌, length, get_or, slice_get, map, filter, position, Option, Some, None, option_map, option_to_list, option_and_then, codes}
+use Rattle.std.specs.Prelude.{ℕ, zero, suc, ◌+◌, Bool, true, false, ◌||◌, ◌==◌, if◌then◌else◌, List, [], ◌∷◌, ◌++◌, length, get_or, Option, Some, None, option_map, option_to_list, codes}
 use Rattle.cil_semantics.specs.Words.{any}
-use Rattle.cil_model.specs.declared.ty.Ty.{Ty, out-Ty, Prim, Known}
+use Rattle.cil_model.specs.declared.ty.Ty.{Ty, out-Ty, Prim}
 use Rattle.cil_model.specs.declared.ty.Ty.TheOpen.{Ty-F}
 use Rattle.cil_model.specs.declared.ty.Ty.TheVariants as ty
 use Rattle.cil_model.specs.declared.program.Program.{Program}
 use Rattle.cil_model.specs.declared.program.TypeDesc.{TypeDesc}
 use Rattle.cil_model.specs.declared.program.FieldDesc.{FieldDesc}
 use Rattle.cil_model.specs.declared.program.MethodDesc.{MethodDesc}
-use Rattle.cil_model.specs.declared.program.Kind.{Kind}
-use Rattle.cil_model.specs.declared.program.Kind.TheVariants.{Class, Interface, Struct, Enumeration, Delegate}
+use Rattle.cil_model.specs.declared.program.Kind.TheVariants.{Class}
 use Rattle.cil_semantics.specs.Types.{Layer, under, all_under, same_ty}
-use Rattle.cil_semantics.specs.Core.{Name, class, object_ty, outside_base}
+use Rattle.cil_semantics.specs.Core.{class, object_ty, outside_base}
 
 -- The class of the exception that a failed clause makes. It stands for each number past the types of a program.
 unfoldable pub contract_exception : TypeDesc

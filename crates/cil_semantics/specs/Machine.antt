@@ -1,24 +1,20 @@
 -- One step of a run, and runs of so many steps. The same machine serves the plain run and the run with contracts.
-use Rattle.std.specs.Prelude.{ℕ, zero, suc, ◌+◌, ◌-◌, Bool, true, false, ◌&&◌, ◌||◌, ◌==◌, not, if◌then◌else◌, List, [], ◌∷◌, ◌++◌, length, map, take, slice_get, Option, Some, None, option_map, option_and_then}
-use Rattle.cil_model.specs.declared.ty.Ty.{Ty}
+use Rattle.std.specs.Prelude.{ℕ, zero, suc, ◌+◌, false, List, [], ◌∷◌, length, take, slice_get, Option, Some, None}
 use Rattle.cil_model.specs.declared.value.Value.{Value, out-Value}
 use Rattle.cil_model.specs.declared.body.Instr.{Instr}
 use Rattle.cil_model.specs.declared.body.Operand.{Operand}
-use Rattle.cil_model.specs.declared.body.Operand.TheVariants.{Nothing, Int, Index, Target, Targets, Tok}
+use Rattle.cil_model.specs.declared.body.Operand.TheVariants.{Index}
 use Rattle.cil_model.specs.declared.program.Program.{Program}
 use Rattle.cil_model.specs.declared.contract.Contracts.{Contracts}
 use Rattle.cil_model.specs.declared.contract.Group.{Group}
 use Rattle.cil_model.specs.declared.contract.Old.{Old}
 use Rattle.cil_model.specs.declared.run.Reply.{Reply}
-use Rattle.cil_model.specs.declared.run.Outcome.{Outcome}
 use Rattle.cil_model.specs.NoContracts.{no_contracts}
 use Rattle.cil_semantics.specs.Words.{maybe}
-use Rattle.cil_semantics.specs.Lookups.{method_of}
 use Rattle.cil_semantics.specs.Places.{Anything, Cell}
-use Rattle.cil_semantics.specs.State.{World, Item, At, Lead, In, Rest, Frame, State, Next, Goes, Ends, Back, Pushes, pushed, with_stack}
-use Rattle.cil_semantics.specs.Tokens.{Here, meaning_here}
+use Rattle.cil_semantics.specs.State.{World, At, Lead, In, Rest, Frame, State, Next, Goes, Ends, Pushes, pushed, with_stack}
 use Rattle.cil_semantics.specs.Classes.{Class, class_of, Loads_local, Stores_local, Points_to_local}
-use Rattle.cil_semantics.specs.Acts.{Act, Is_stuck, Goes_on, Jumps, Raises, Throws, Throws_again, Leaves, Ends_handler, Returns, Loads, Stores, Copies, Uses_static, Calls, Calls_virtual, Makes, Finds_virtual, Call}
+use Rattle.cil_semantics.specs.Acts.{Act, Is_stuck, Goes_on, Jumps, Raises, Throws, Throws_again, Leaves, Ends_handler, Returns, Loads, Stores, Copies, Uses_static, Calls, Calls_virtual, Makes, Finds_virtual}
 use Rattle.cil_semantics.specs.Instructions.{act}
 use Rattle.cil_semantics.specs.Contracted.{Piece, Plan}
 use Rattle.cil_semantics.specs.Unwind.{body_of, plan_at, piece_at, here_of, place_in, moved_to, arrive, unwind, raise, leave, resume, innermost}

@@ -1,8 +1,6 @@
 -- The end of a frame that returns, and of a piece of a group (ECMA-335, III.3.57; the Code Contracts manual on the order of checks).
-use Rattle.std.specs.Prelude.{ℕ, zero, suc, ◌+◌, Bool, true, false, ◌&&◌, not, if◌then◌else◌, List, [], ◌∷◌, reverse, slice_get, Option, Some, None, option_map, option_and_then}
-use Rattle.cil_model.specs.declared.ty.Ty.{Ty}
+use Rattle.std.specs.Prelude.{ℕ, ◌+◌, Bool, true, false, not, if◌then◌else◌, List, [], ◌∷◌, reverse, Option, Some, None, option_map, option_and_then}
 use Rattle.cil_model.specs.declared.value.Value.{Value, out-Value}
-use Rattle.cil_model.specs.declared.value.Value.TheOpen.{Value-F}
 use Rattle.cil_model.specs.declared.contract.Contracts.{Contracts}
 use Rattle.cil_model.specs.declared.contract.Group.{Group}
 use Rattle.cil_model.specs.declared.contract.Group.TheVariants as group
@@ -12,11 +10,10 @@ use Rattle.cil_semantics.specs.Words.{maybe}
 use Rattle.cil_semantics.specs.Types.{under}
 use Rattle.cil_semantics.specs.Lookups.{method_of}
 use Rattle.cil_semantics.specs.Places.{Cell, No_value, holds, stored}
-use Rattle.cil_semantics.specs.State.{World, Local, At, Lead, In, Rest, Frame, Next, Ends, Back, Pushes, Makes, Makes_struct, Then_throws, Begins, Uses, Tries, Left, pushed, with_stack, lowered}
+use Rattle.cil_semantics.specs.State.{World, Local, At, Lead, In, Rest, Frame, Next, Ends, Back, Pushes, Makes, Makes_struct, Then_throws, Begins, Uses, Tries, Left, pushed, lowered}
 use Rattle.cil_semantics.specs.Acts.{flag, truth}
 use Rattle.cil_semantics.specs.Contracted.{Plan}
-use Rattle.cil_semantics.specs.Unwind.{plan_at, begin_group, begin_piece, begin_rest, next_piece, next_place, arrive, ends_frame, unwind}
-use Rattle.cil_semantics.specs.Outside.{no_value}
+use Rattle.cil_semantics.specs.Unwind.{plan_at, begin_group, begin_piece, begin_rest, next_piece, ends_frame, unwind}
 use Rattle.cil_semantics.specs.Frames.{stuck, if_there, go_on, begin, use_static, enter_delegate, next_try}
 
 -- the value is pushed in the frame below, which goes on

@@ -1,5 +1,5 @@
 -- Two machines of which the second answers each step of the first, and what follows for whole runs.
-use Rattle.std.specs.Prelude.{◌≡◌, ℕ, zero, suc, ◌+◌, ◌*◌, ◌≤◌, List, ◌++◌}
+use Rattle.std.specs.Prelude.{◌≡◌, ℕ, suc, ◌+◌, ◌*◌, ◌≤◌, List, ◌++◌}
 use Rattle.cil_model.specs.declared.run.Outcome.{Outcome}
 use Rattle.cil_semantics.specs.State.{World, Item, State, Next, Goes, Ends}
 use Rattle.cil_semantics.specs.Machine.{runs}

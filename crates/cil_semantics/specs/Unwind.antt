@@ -1,28 +1,23 @@
 -- Arriving at places, groups, and unwinding (ECMA-335, I.12.4.2 and II.19; the Code Contracts manual on the order of checks).
-use Rattle.std.specs.Prelude.{ℕ, zero, suc, ◌+◌, ◌-◌, Bool, true, false, ◌&&◌, ◌||◌, ◌==◌, not, nat_lt, nat_le, if◌then◌else◌, List, [], ◌∷◌, ◌++◌, length, map, filter, slice_get, slice_set, Option, Some, None, option_map, option_and_then, codes}
+use Rattle.std.specs.Prelude.{ℕ, zero, suc, ◌+◌, Bool, true, false, ◌&&◌, ◌==◌, not, nat_lt, nat_le, if◌then◌else◌, List, [], ◌∷◌, length, filter, slice_get, Option, Some, None, option_map, option_and_then, codes}
 use Rattle.cil_base.specs.declared.token.Token.{Token}
-use Rattle.cil_model.specs.declared.ty.Ty.{Ty, Opaque}
-use Rattle.cil_model.specs.declared.value.Value.{Value, Null, Obj}
+use Rattle.cil_model.specs.declared.ty.Ty.{Ty}
+use Rattle.cil_model.specs.declared.value.Value.{Obj}
 use Rattle.cil_model.specs.declared.body.Body.{Body}
-use Rattle.cil_model.specs.declared.body.Instr.{Instr}
 use Rattle.cil_model.specs.declared.body.Region.{Region}
 use Rattle.cil_model.specs.declared.body.RegionKind.{RegionKind}
 use Rattle.cil_model.specs.declared.body.RegionKind.TheVariants as region
 use Rattle.cil_model.specs.declared.program.Program.{Program}
-use Rattle.cil_model.specs.declared.program.Meaning.{Meaning}
 use Rattle.cil_model.specs.declared.contract.Contracts.{Contracts}
-use Rattle.cil_model.specs.declared.contract.TyRef.{TyRef}
 use Rattle.cil_model.specs.declared.contract.Group.{Group}
 use Rattle.cil_model.specs.declared.contract.Group.TheVariants as group
-use Rattle.cil_model.specs.declared.run.Outcome.{Outcome}
 use Rattle.cil_model.specs.declared.run.Outcome.TheVariants as outcome
 use Rattle.cil_semantics.specs.Words.{maybe}
 use Rattle.cil_semantics.specs.Types.{under, same_ty}
 use Rattle.cil_semantics.specs.Core.{Name, class}
 use Rattle.cil_semantics.specs.Lookups.{method_of, is_sub}
-use Rattle.cil_semantics.specs.Places.{Cell}
-use Rattle.cil_semantics.specs.State.{Object, World, Local, At, Lead, In, Rest, Cause, Caught, Thrown_on, Left_for, Handling, Frame, State, Next, Goes, Ends, Statics, Init, Begun, Failed, Begins, Back, Pushes, Makes, Then_throws, Uses, Tries, with_stack, raised, lowered, object_at, next_object, with_object}
-use Rattle.cil_semantics.specs.Tokens.{Here, meaning_of, as_type, ref_type, local_tys, locals_in}
+use Rattle.cil_semantics.specs.State.{Object, World, Local, At, Lead, In, Rest, Cause, Caught, Thrown_on, Left_for, Handling, Frame, Next, Goes, Ends, Statics, Failed, Begins, Back, with_stack, raised, lowered, object_at, next_object, with_object}
+use Rattle.cil_semantics.specs.Tokens.{Here, meaning_of, as_type, ref_type, locals_in}
 use Rattle.cil_semantics.specs.Contracted.{Piece, Plan, plan_for, pieces, runs_at}
 use Rattle.cil_semantics.specs.Acts.{ty_name}
 

@@ -8,6 +8,7 @@ ghost use Rattle.cil_semantics.specs.Simulation.{Simulates, Lifts};
 pub trait Simulation {
     /// The steps of the two machines.
     ghost first: { Self → State → Next };
+
     ghost second: { Self → State → Next };
 
     /// Which states of the two go together.
@@ -30,5 +31,4 @@ pub trait Simulation {
 /// where the other's does, and neither writes what the other doesn't.
 pub fn lifting<S: Simulation>()
     ensures { (x : S) → Lifts (S.first x) (S.second x) (S.related x) (S.laid_by x) (S.bound x) }
-{
-}
+{}
