@@ -1,1 +1,2 @@
 pub mod OpcodeLaws
+mod MethodListLaws

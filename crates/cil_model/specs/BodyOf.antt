@@ -62,13 +62,13 @@ kind_of offsets c =
 abbrev pub region_with : Option RegionKind → Option ℕ → Option ℕ → Option ℕ → Option ℕ → Option Region
 region_with kind try_from try_to handler_from handler_to =
     option_and_then (λ k. option_and_then (λ a. option_and_then (λ b. option_and_then (λ c. option_map (λ d.
-        record { kind = k; try_from = a; try_to = b; handler_from = c; handler_to = d }) handler_to) handler_from) try_to) try_from) kind
+    record { kind = k; try_from = a; try_to = b; handler_from = c; handler_to = d }) handler_to) handler_from) try_to) try_from) kind
 
 -- a clause by places: each part begins at an instruction, and ends at one or with the code
 abbrev pub region_of : List ℕ → ℕ → RawClause → Option Region
 region_of offsets size c =
     region_with (kind_of offsets c) (place_of offsets c.try_from) (place_of (offsets ++ size ∷ []) (c.try_from + c.try_size))
-        (place_of offsets c.handler_from) (place_of (offsets ++ size ∷ []) (c.handler_from + c.handler_size))
+    (place_of offsets c.handler_from) (place_of (offsets ++ size ∷ []) (c.handler_from + c.handler_size))
 
 -- ---- the body
 

@@ -4,3 +4,7 @@ pub mod Opcodes
 pub mod BodyCode
 pub mod BodyLayout
 pub mod BodyOf
+pub mod NoContracts
+pub mod MethodLists
+pub mod Programs
+pub mod Texts

@@ -2,11 +2,30 @@
 #![tactic(auto)]
 
 mod body;
+mod contract;
 mod layout;
+mod methods;
 mod opcode;
+mod program;
+mod run;
+mod tree;
 mod ty;
+mod value;
 
 pub use body::{Body, Instr, Instrs, Operand, Region, RegionKind, Regions};
+pub use contract::{
+    Capture, Captures, Clause, ClauseKind, ClauseLists, Clauses, Contract, ContractList, Contracts,
+    Effective, EffectiveList, Group, Level, Names, Old, Olds, OwnContracts, Runtime, Settings,
+    TyRef, TyRefs,
+};
 pub use layout::{Layout, MethodHeader, RawClause, RawClauses, Section};
-pub use opcode::{find_opcode, opcodes, Class, Opcode, OperandKind};
+pub use methods::MethodDescs;
+pub use opcode::{Class, Opcode, OperandKind, find_opcode, opcodes};
+pub use program::{
+    FieldDesc, FieldDescs, Impl, Impls, Kind, Meaning, MethodDesc, Program, Source, Sources,
+    TokenRow, TokenRows, TypeDesc, TypeDescs,
+};
+pub use run::{Outcome, Replies, Reply, ReplyResult, RunResult, Trace, TraceItem};
+pub use tree::{Block, Blocks, Handler, Handlers, Tree};
 pub use ty::{Ty, Tys, Under};
+pub use value::{Pointer, Value, Values};

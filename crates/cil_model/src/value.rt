@@ -1,0 +1,60 @@
+// The values that a run computes with.
+
+use crate::ty::{Ty, Tys};
+use cil_base::{Bytes, U32s, Units};
+use sqlite_items::Items;
+
+/// What a pointer points to (ECMA-335, I.12.1.1.2 and III.1.1.5.2). `frame` counts the frames below
+/// it and `method` is the method that it runs. `path` leads from a cell to a field of a struct in it.
+#[derive(Debug, Drop)]
+pub enum Pointer {
+    Arg {
+        frame: u64,
+        method: u32,
+        index: u32,
+        path: U32s,
+    },
+    Local {
+        frame: u64,
+        method: u32,
+        index: u32,
+        path: U32s,
+    },
+    /// A cell of an object, by its number in the path.
+    Inside {
+        object: u32,
+        path: U32s,
+    },
+    /// A static field of a closed type.
+    Static {
+        owner: Ty,
+        field: u32,
+        path: U32s,
+    },
+}
+
+/// A value on the stack, in a cell, or in the text of a run (ECMA-335, III.1.1).
+#[cycle(value)]
+#[derive(Debug, Drop)]
+pub enum Value {
+    I4(i32),
+    I8(i64),
+    Native(i64),
+    Null,
+    /// The k-th object made, from 1.
+    Obj(u32),
+    Text(Units),
+    Ptr(Pointer),
+    /// A struct of the set, with one value for each instance field.
+    Struct(Items<Value>),
+    /// A method with the arguments of its type and its own.
+    Func {
+        method: u32,
+        type_args: Tys,
+        method_args: Tys,
+    },
+    /// A value that is carried along unread.
+    Opaque(Bytes),
+}
+
+pub type Values = Items<Value>;
