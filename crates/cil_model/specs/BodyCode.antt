@@ -1,5 +1,5 @@
 -- How an instruction with its prefixes stands in code (ECMA-335, III.1.2 and III.1.9). Here a target is an offset in the code.
-use Rattle.std.specs.Prelude.{◌≡◌, ℕ, zero, suc, ◌+◌, ◌-◌, ◌*◌, ◌%◌, ◌^◌, Bool, true, false, ◌==◌, nat_lt, nat_le, if◌then◌else◌, List, [], ◌∷◌, ◌++◌, length, drop, ℤ, slice_get, Option, Some, None, Result, Ok, Err}
+use Rattle.std.specs.Prelude.{ℕ, zero, suc, ◌+◌, ◌-◌, ◌*◌, ◌%◌, ◌^◌, ◌==◌, nat_lt, nat_le, if◌then◌else◌, List, [], ◌∷◌, ◌++◌, length, drop, slice_get, Option, Some, None, Result, Ok, Err}
 use Rattle.std.specs.Int.{w8, w32, w64, cast_signed}
 use Rattle.std.specs.Int.RustNames.{bit_or}
 use Rattle.cil_base.specs.declared.token.Token.{Token}

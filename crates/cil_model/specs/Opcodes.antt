@@ -1,5 +1,5 @@
 -- The instructions (ECMA-335, III.3 and III.4): each code, the code of the longest spelling of the same instruction, the operand, how many values are taken and left where the code says so, and what it does.
-use Rattle.std.specs.Prelude.{◌≡◌, ℕ, Bool, ◌==◌, List, [], ◌∷◌, Option, Some, None, find, true, false, ◌&&◌, ℤ, pos, negsuc, ◌+◌, ◌-◌, nat_lt, if◌then◌else◌}
+use Rattle.std.specs.Prelude.{ℕ, Bool, ◌==◌, List, [], ◌∷◌, Option, Some, None, find, false, ◌&&◌, pos, negsuc, ◌+◌, ◌-◌, nat_lt, if◌then◌else◌}
 use Rattle.cil_model.specs.declared.opcode.Opcode.{Opcode}
 use Rattle.cil_model.specs.declared.opcode.Class.{Class}
 use Rattle.cil_model.specs.declared.opcode.Class.TheVariants as class

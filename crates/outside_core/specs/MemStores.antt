@@ -1,5 +1,5 @@
 -- A store in memory, by what its calls show.
-use Rattle.std.specs.Prelude.{◌≡◌, ℕ, List, [], Option, None}
+use Rattle.std.specs.Prelude.{◌≡◌, ℕ, List, Option, None}
 use Rattle.outside_core.specs.declared.memory.MemStore.{MemStore}
 use Rattle.outside_core.specs.Memory.{file_under}
 

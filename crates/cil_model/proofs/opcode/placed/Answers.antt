@@ -1,7 +1,7 @@
-use Rattle.std.proofs.Common.{◌≡◌, ap, ◌∙◌, List, ℕ, get_or}
+use Rattle.std.proofs.Common.{ap, ◌∙◌, List, ℕ, get_or}
 use Rattle.std.specs.Prelude.{slice_get}
 use Rattle.cil_model.specs.declared.opcode.Opcode.{Opcode}
-use Rattle.cil_model.specs.Opcodes.{the_opcodes, the_places}
+use Rattle.cil_model.specs.Opcodes.{the_opcodes}
 use Rattle.cil_model.proofs.OpcodeLaws.{placed}
 use Rattle.cil_model.proofs.opcode.placed.Goals as goal
 
