@@ -19,3 +19,6 @@ pub mod Calls
 pub mod Checks
 pub mod Machine
 pub mod Simulation
+pub mod Everything
+pub mod Samples
+pub mod Rows
