@@ -8,5 +8,5 @@ mod ty;
 
 pub use body::{Body, Instr, Instrs, Operand, Region, RegionKind, Regions};
 pub use layout::{Layout, MethodHeader, RawClause, RawClauses, Section};
-pub use opcode::{find_opcode, opcodes, Class, Opcode, OperandKind};
+pub use opcode::{Class, Opcode, OperandKind, find_opcode, opcodes};
 pub use ty::{Ty, Tys, Under};
