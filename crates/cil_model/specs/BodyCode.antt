@@ -14,6 +14,7 @@ use Rattle.cil_model.specs.declared.opcode.Opcode.{Opcode}
 use Rattle.cil_model.specs.declared.opcode.OperandKind.{OperandKind}
 use Rattle.cil_model.specs.declared.opcode.OperandKind.TheVariants as op
 use Rattle.cil_model.specs.Opcodes.{opcode_of}
+use Rattle.cil_model.specs.SmallCode.{Reading}
 
 -- ---- codes
 
@@ -87,10 +88,6 @@ operand_at a at (op.Flag bit) bytes = None
 operand_at a at op.Constrained bytes = None
 
 -- ---- instructions with their prefixes
-
--- an instruction and how many bytes it takes, or the rule that is broken
-abbrev pub Reading : Type 0
-Reading = Result (Instr × ℕ) Rule
 
 abbrev pub with_operand : Option Token → ℕ → ℕ → ℕ → Option (Operand × ℕ) → Reading
 with_operand constrained flags taken code None = Err I2

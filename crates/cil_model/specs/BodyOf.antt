@@ -7,7 +7,7 @@ use Rattle.cil_base.specs.declared.rule.Rule.TheVariants.{I3, I5}
 use Rattle.cil_base.specs.declared.refusal.Place.{Place}
 use Rattle.cil_base.specs.declared.refusal.Refusal.{Refusal}
 use Rattle.cil_base.specs.Refusals.{refusal}
-use Rattle.cil_base.specs.Tokens.{token_of, token_number}
+use Rattle.cil_base.specs.Tokens.{token_of}
 use Rattle.cil_model.specs.declared.body.Operand.{Operand}
 use Rattle.cil_model.specs.declared.body.Operand.TheVariants.{Nothing, Int, Index, Target, Targets, Tok}
 use Rattle.cil_model.specs.declared.body.Instr.{Instr}
@@ -16,7 +16,7 @@ use Rattle.cil_model.specs.declared.body.RegionKind.{RegionKind}
 use Rattle.cil_model.specs.declared.body.RegionKind.TheVariants.{Catch, Filter, Finally, Fault}
 use Rattle.cil_model.specs.declared.body.Body.{Body}
 use Rattle.cil_model.specs.declared.layout.RawClause.{RawClause}
-use Rattle.cil_model.specs.SmallCode.{Reads}
+use Rattle.cil_model.specs.SmallCode.{Reads, locals_number}
 use Rattle.cil_model.specs.BodyCode.{instr_at}
 use Rattle.cil_model.specs.declared.layout.Layout.{Layout}
 use Rattle.cil_model.specs.BodyLayout.{layout_of, code_of}
@@ -76,17 +76,13 @@ region_of offsets size c =
 abbrev pub IsInstr : ℕ → ℕ → List ℕ → Instr → ℕ → Type 0
 IsInstr a at bytes i n = instr_at a at bytes ≡ Ok (i, n)
 
-abbrev pub number_of_locals : Option Token → ℕ
-number_of_locals None = 0
-number_of_locals (Some token) = token_number token
-
 -- The code and what is said of it stand for a body of the assembly a.
 pub record IsBody (a : ℕ) (layout : Layout) (code : List ℕ) (body : Body) : Type 0 where
   pub raw : List Instr
   pub reads : Reads (IsInstr a) 0 code raw body.offsets layout.header.code_size []
   pub instrs : mapped (placed body.offsets) raw ≡ Some body.instrs
   pub regions : mapped (region_of body.offsets layout.header.code_size) layout.clauses ≡ Some body.regions
-  pub locals : number_of_locals body.locals ≡ number_of_locals layout.header.locals
+  pub locals : locals_number body.locals ≡ locals_number layout.header.locals
   pub max_stack : body.max_stack ≡ layout.header.max_stack
   pub init : body.init ≡ layout.header.init
 
@@ -102,7 +98,7 @@ pub record IsSame (x y : Body) : Type 0 where
   pub offsets : x.offsets ≡ y.offsets
   pub instrs : x.instrs ≡ y.instrs
   pub regions : x.regions ≡ y.regions
-  pub locals : number_of_locals x.locals ≡ number_of_locals y.locals
+  pub locals : locals_number x.locals ≡ locals_number y.locals
   pub max_stack : x.max_stack ≡ y.max_stack
   pub init : x.init ≡ y.init
 

@@ -14,7 +14,7 @@ use Rattle.cil_model.specs.declared.body.Body.{Body}
 use Rattle.cil_model.specs.declared.layout.Layout.{Layout}
 use Rattle.cil_model.specs.declared.layout.RawClause.{RawClause}
 use Rattle.cil_model.specs.BodyLayout.{layout_of, code_of}
-use Rattle.cil_model.specs.BodyOf.{BodyFault, CodeFault, IsBody, IsFault, IsSame, StandsFor, TargetFault, mapped, placed, region_of, number_of_locals, target_fault}
+use Rattle.cil_model.specs.BodyOf.{BodyFault, CodeFault, IsBody, IsFault, IsSame, StandsFor, TargetFault, mapped, placed, region_of, target_fault}
 use Rattle.il_body.proofs.MappedLaws.{none_missing}
 use Rattle.il_body.proofs.ReadLaws.{never_broken, read_once, fault_once}
 

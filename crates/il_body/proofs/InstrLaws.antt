@@ -12,7 +12,8 @@ use Rattle.cil_base.specs.Tokens.{token_of}
 use Rattle.cil_model.specs.declared.opcode.Opcode.{Opcode}
 use Rattle.cil_model.specs.declared.opcode.OperandKind.{OperandKind}
 use Rattle.cil_model.specs.declared.opcode.OperandKind.TheVariants as op
-use Rattle.cil_model.specs.BodyCode.{Reading, opcode_at, prefixed, instr_at, behind, behind_code, with_operand, operand_at, with_type}
+use Rattle.cil_model.specs.SmallCode.{Reading}
+use Rattle.cil_model.specs.BodyCode.{opcode_at, prefixed, instr_at, behind, behind_code, with_operand, operand_at, with_type}
 
 pub no_more : (xs : List ℕ) → length xs ≡ 0 → xs ≡ []
 no_more [] h = refl

@@ -44,10 +44,11 @@ drop_more xs ys k d h g e =
 
 pub put_one : {X : Type 0} (f : X → Option X) (old xs : List X) (k : ℕ) (d y : X) → k < length old → length xs ≡ length old → drop k xs ≡ drop k old → after (take k xs) (mapped f (drop k old)) ≡ mapped f old → f (get_or xs k d) ≡ Some y → (length (set xs k y) ≡ length old) × (drop (k + 1) (set xs k y) ≡ drop (k + 1) old) × (after (take (k + 1) (set xs k y)) (mapped f (drop (k + 1) old)) ≡ mapped f old)
 put_one f old xs k d y h len rest all e =
-    let inside : k < length xs = omega arith in
-    (length-set xs k y ∙ len,
-    drop-set-lt (k + 1) xs k y (omega arith) ∙ drop_more xs old k d inside h rest,
-    rw (take_more_set xs k y inside) (sym (one_more f old k (get_or xs k d) d y (take k xs) h (sym (same_at xs old k d rest)) e) ∙ all))
+    let inside : k < length xs = omega arith in (
+      length-set xs k y ∙ len,
+      drop-set-lt (k + 1) xs k y (omega arith) ∙ drop_more xs old k d inside h rest,
+      rw (take_more_set xs k y inside) (sym (one_more f old k (get_or xs k d) d y (take k xs) h (sym (same_at xs old k d rest)) e) ∙ all),
+    )
 
 pub put_none : {X : Type 0} (f : X → Option X) (old xs : List X) (k : ℕ) (d : X) → k < length old → drop k xs ≡ drop k old → after (take k xs) (mapped f (drop k old)) ≡ mapped f old → f (get_or xs k d) ≡ None → mapped f old ≡ None
 put_none f old xs k d h rest all e = sym all ∙ none_of f old k (get_or xs k d) d (take k xs) h (sym (same_at xs old k d rest)) e

@@ -5,8 +5,8 @@ use Rattle.std.proofs.Math.Seq.{get_or-append_seam}
 use Rattle.std.proofs.lemmas.Bool.{cases_lt}
 use Rattle.cil_base.specs.declared.rule.Rule.{Rule}
 use Rattle.cil_model.specs.declared.body.Instr.{Instr}
-use Rattle.cil_model.specs.SmallCode.{Reads}
-use Rattle.cil_model.specs.BodyCode.{Reading, instr_at, prefixed}
+use Rattle.cil_model.specs.SmallCode.{Reading, Reads}
+use Rattle.cil_model.specs.BodyCode.{instr_at, prefixed}
 use Rattle.cil_model.specs.BodyOf.{IsInstr}
 use Rattle.il_body.specs.Answers.{Rise}
 

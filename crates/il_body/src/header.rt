@@ -17,7 +17,11 @@ pub(crate) fn has_bit(value: u32, n: u32) -> bool
 fn locals_in(v: u32) -> Option<Token>
     ensures { result ≡ locals_of v }
 {
-    if v == 0 { None } else { Some(Token::from_u32(v)) }
+    if v == 0 {
+        None
+    } else {
+        Some(Token::from_u32(v))
+    }
 }
 
 fn is_fat(flags: u32) -> bool

@@ -6,8 +6,8 @@ ghost use Rattle.il_body.specs.declared.instr.ReadFault.TheVariants.{Memory};
 
 use crate::numbers::bytes_from;
 use crate::operand::read_operand;
-use cil_base::{read_u32_at, Rule, Token};
-use cil_model::{find_opcode, Instr, Opcode, OperandKind};
+use cil_base::{Rule, Token, read_u32_at};
+use cil_model::{Instr, Opcode, OperandKind, find_opcode};
 use std::alloc::{AllocError, Global};
 
 /// Why there is no instruction.

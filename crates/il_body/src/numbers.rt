@@ -1,5 +1,6 @@
 // Numbers at places that are known to be there.
 #![tactic(auto, unfolding(cil_base::specs::Numbers::num))]
+
 ghost use Rattle.std.specs.Prelude.{◌≡◌, ◌+◌, ◌≤◌, length, drop};
 ghost use Rattle.cil_base.specs.Numbers.{num};
 

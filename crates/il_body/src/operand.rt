@@ -7,7 +7,7 @@ ghost use Rattle.cil_model.specs.declared.body.Operand.TheVariants.{Int, Index, 
 ghost use Rattle.std.specs.Int.{w8, w32, w64, cast_signed};
 
 use crate::numbers::{eight_in, four_in};
-use cil_base::{read_u16_at, read_u32_at, Token, U32s};
+use cil_base::{Token, U32s, read_u16_at, read_u32_at};
 use cil_model::{Operand, OperandKind};
 use std::alloc::{AllocError, Global};
 
@@ -22,7 +22,11 @@ fn land(end: u64, v: u32) -> u32
 fn widen(b: u8) -> u32
     ensures { result ≡ widened b }
 {
-    if b < 0x80 { b as u32 } else { b as u32 + 0xFFFF_FF00 }
+    if b < 0x80 {
+        b as u32
+    } else {
+        b as u32 + 0xFFFF_FF00
+    }
 }
 
 /// The targets of a switch that ends at an offset.

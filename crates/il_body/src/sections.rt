@@ -87,7 +87,11 @@ fn read_clause(fat: bool, bytes: &[u8], at: usize) -> RawClause
     requires { at + width fat ≤ length bytes.now }
     ensures { result ≡ clause_at fat bytes.now at }
 {
-    if fat { read_big(bytes, at) } else { read_small(bytes, at) }
+    if fat {
+        read_big(bytes, at)
+    } else {
+        read_small(bytes, at)
+    }
 }
 
 fn is_known(clause: RawClause) -> bool

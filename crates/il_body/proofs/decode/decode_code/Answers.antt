@@ -19,7 +19,7 @@ returns-in-Some-put_all-clause-broken c =
     let k = c.in-Some-put_all.k in
     let clauses : c.as_slice.result.now ≡ layout.clauses = c.as_slice.ensures in
     let regions : mapped (region_of offsets size) layout.clauses ≡ Some c.in-Some.regions =
-        sym (rw (c.as_slice-places.ensures, clauses) at c.in_ok-regions.ensures) ∙ c.in-Some.is in
+    sym (rw (c.as_slice-places.ensures, clauses) at c.in_ok-regions.ensures) ∙ c.in-Some.is in
     let at : position (λ (i : Instr). is_none (placed offsets i)) raw ≡ Some k = rw c.as_slice-places.ensures at c.in-Some-put_all.ensures.all in
     let first = branch_fault c.args.place offsets size layout.clauses raw c.in-Some.regions k regions at in
     inr (record {

@@ -49,9 +49,10 @@ codes-preserved c =
     let within : (0 < read.1) × (read.1 ≤ length c.bytes_from.result.now) = c.in-Ok.ensures.within in
     let room : read.1 ≤ length (drop c.codes.taken bytes) = rw (← c.bytes_from.ensures) within.1 in
     let some : num_at (drop (c.codes.taken + read.1) bytes) 0 4 ≡ Some v = ap (λ (l : List ℕ). num_at l 0 4) (sym c.bytes_from-rest.ensures) ∙ sym c.in-Some.ensures in
-    let four = number_room (drop (c.codes.taken + read.1) bytes) v some in
-    (omega (arith, length-drop c.codes.taken bytes, length-drop (c.codes.taken + read.1) bytes, four),
-    (inv.0 - 1, omega arith, rw c.from_u32.ensures (typed c.args.assembly c.args.at bytes inv.0 c.codes.constrained c.codes.flags c.codes.taken read.0 read.1 v inv.1 inv.2 h c.in-Constrained.is some)))
+    let four = number_room (drop (c.codes.taken + read.1) bytes) v some in (
+      omega (arith, length-drop c.codes.taken bytes, length-drop (c.codes.taken + read.1) bytes, four),
+      (inv.0 - 1, omega arith, rw c.from_u32.ensures (typed c.args.assembly c.args.at bytes inv.0 c.codes.constrained c.codes.flags c.codes.taken read.0 read.1 v inv.1 inv.2 h c.in-Constrained.is some)),
+    )
 
 pub returns-in_default : goal.returns-in_default
 returns-in_default c =
