@@ -1,10 +1,10 @@
 -- The order of refusals is total: the first refusal of a layer is one.
-use Rattle.std.proofs.Common.{◌≡◌, ℕ, ◌≤◌, Bool, true, false, List, [], ◌∷◌, get_or, refl, sym, ap, ◌∙◌, inl, inr, arith}
+use Rattle.std.proofs.Common.{◌≡◌, ℕ, false, List, [], ◌∷◌, get_or, refl, sym, ap, ◌∙◌, inl, inr, arith}
 use Rattle.cil_base.specs.declared.rule.Rule.{Rule}
 use Rattle.cil_base.specs.declared.rule.Rule.TheVariants.{P1, P2, P3, P4, P5, P6, M1, M2, M3, M4, M5, M6, M7, S1, S2, N1, N2, N3, N4, N5, N6, I1, I2, I3, I4, I5, I6, X1, X2, X3, X4, C1, C2, C3, C4, C5, C6, C7, C8, C9, C10, H1, H2, H3, H4, Z1, L1, L2, L3, L4, L5, L6}
 use Rattle.cil_base.specs.declared.refusal.Refusal.{Refusal}
 use Rattle.cil_base.specs.Rules.{rule_number}
-use Rattle.cil_base.specs.Refusals.{key, is_less, First, NoneBroken, InTurn}
+use Rattle.cil_base.specs.Refusals.{key, is_less, First, InTurn}
 use Rattle.cil_base.proofs.RefusalLaws.{head_of}
 
 -- the rules by their numbers

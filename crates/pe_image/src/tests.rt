@@ -197,9 +197,16 @@ const SECTION: [u8; 0x250] = [0x5A; 0x250];
 fn grown_sample() -> [u8; 0xE00] {
     let old = sample(false);
     let mut bytes = [0; 0xE00];
-    bytes[..0x1F0].copy_from_slice(&old[..0x1F0]);
-    bytes[0x400..0xA00].copy_from_slice(&old[0x200..]);
-    bytes[0xA00..0xC50].copy_from_slice(&SECTION);
+    for (i, byte) in old.iter().enumerate() {
+        if i < 0x1F0 {
+            bytes[i] = *byte;
+        } else if i >= 0x200 {
+            bytes[i + 0x200] = *byte;
+        }
+    }
+    for i in 0xA00..0xC50 {
+        bytes[i] = 0x5A;
+    }
     put(&mut bytes, 0x84, 0x4014C);
     put(&mut bytes, 0x8C, 0);
     put(&mut bytes, 0x90, 0);
