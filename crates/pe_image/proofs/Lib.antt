@@ -1,3 +1,5 @@
 pub mod SectionLaws
 pub mod RuleLaws
 pub mod ImageLaws
+pub mod GrowthLaws
+pub mod WrittenLaws

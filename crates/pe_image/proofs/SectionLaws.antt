@@ -150,3 +150,12 @@ pub place_within : (bytes : List ℕ) (h : Headers) (rva len : ℕ) (s : Section
 place_within bytes h rva len s e within =
     let both = holds_true rva len s (find_meets (holds rva len) (sections_of bytes h) s e) in
     omega (arith, both.0, both.1)
+
+-- the raw bytes of each section of a table in order are in the file
+pub each_within : (bytes : List ℕ) (a f g at n i q : ℕ) → first_of (section_tests bytes a f g at n) ≡ None → i < n → q ≡ at + 40 * i → 0 < (section_at bytes q).raw_size → raw_end (section_at bytes q) ≤ length bytes
+each_within bytes a f g at zero i q e h same = absurd (omega arith)
+each_within bytes a f g at (suc n) zero q e h same =
+    let here : q ≡ at = omega arith in
+    rw here (misplaced_not bytes f g (section_at bytes at) (none_after bytes a f g at n e).0)
+each_within bytes a f g at (suc n) (suc i) q e h same =
+    each_within bytes a (address_end (section_at bytes at)) (cond (nat_lt 0 (section_at bytes at).raw_size) (raw_end (section_at bytes at)) g) (at + 40) n i q (none_after bytes a f g at n e).1 (omega arith) (omega arith)

@@ -51,3 +51,9 @@ pub record Fit (h : Headers) : Type 0 where
   pub far : h.directories + 120 ≤ h.sections
   pub small : h.sections < 2 ^ 33
   pub few : h.count < 2 ^ 16
+
+-- FileAlignment is from 512 to 65,536, and SectionAlignment is no smaller.
+pub record Aligned (bytes : List ℕ) (h : Headers) : Type 0 where
+  pub low : 512 ≤ file_alignment bytes h
+  pub high : file_alignment bytes h ≤ 65536
+  pub order : file_alignment bytes h ≤ section_alignment bytes h

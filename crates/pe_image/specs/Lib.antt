@@ -3,3 +3,5 @@ pub mod Sections
 pub mod Cli
 pub mod Rules
 pub mod Images
+pub mod Growth
+pub mod Written

@@ -28,7 +28,25 @@ const KIND_FLAGS: u32 = 0x11;
 
 const IL_ONLY: u32 = 1;
 
+/// All flags but STRONGNAMESIGNED.
+const NOT_SIGNED: u32 = 0xFFFF_FFF7;
+
 impl CliHeader {
+    ghost use Rattle.pe_image.specs.Written.{grown_cli};
+
+    /// The CLI header with other metadata, and without a strong name.
+    pub fn grown(&self, metadata_rva: u32, metadata_len: u32) -> CliHeader
+        ensures { result ≡ grown_cli self.now metadata_rva metadata_len }
+    {
+        CliHeader {
+            header_rva: self.header_rva,
+            metadata_rva,
+            metadata_len,
+            flags: self.flags & NOT_SIGNED,
+            entry: self.entry,
+        }
+    }
+
     /// The CLI header at an RVA, which stands at `at` in the file.
     fn read(bytes: &[u8], rva: u32, at: usize) -> CliHeader
         requires { at + 72 ≤ length bytes.now }

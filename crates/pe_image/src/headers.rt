@@ -1,9 +1,10 @@
 // The headers of an image, and the rules on them (ECMA-335, II.25.2).
-ghost use Rattle.std.specs.Prelude.{◌≡◌, ◌+◌, ◌*◌, ◌<◌, ◌≤◌, ◌^◌, length, IfOk, OnOk, Some, None};
+ghost use Rattle.std.specs.Prelude.{◌≡◌, ◌+◌, ◌*◌, ◌<◌, ◌≤◌, ◌^◌, length, IfOk, OnOk, IsTrue, Some, None};
 ghost use Rattle.cil_base.specs.Refusals.{first_of};
-ghost use Rattle.pe_image.specs.Headers.{Fit, pe_of, headers_at, headers_of, cli_rva, table_end};
+ghost use Rattle.pe_image.specs.Headers.{Fit, Aligned, section_alignment, file_alignment, headers_size, pe_of, headers_at, headers_of, cli_rva, table_end};
 ghost use Rattle.pe_image.specs.Sections.{section_of, raw_end};
-ghost use Rattle.pe_image.specs.Rules.{header_tests, coff_tests, optional_tests, directory_tests, goes_on, is_file_alignment};
+ghost use Rattle.pe_image.specs.Images.{InOrder};
+ghost use Rattle.pe_image.specs.Rules.{section_tests, header_tests, coff_tests, optional_tests, directory_tests, goes_on, is_file_alignment};
 
 use crate::fields::{Field, first_cut, refusal_at};
 use crate::section::{Section, find_section, section_fault};
@@ -153,7 +154,8 @@ pub fn coff(bytes: &[u8], assembly: u32, pe: usize) -> Result<Headers, Refusal>
 static FILE_ALIGNMENTS: [u32; 8] = [512, 1024, 2048, 4096, 8192, 16384, 32768, 65536];
 
 fn is_file_alignment(n: u32) -> bool
-    ensures { result ≡ is_file_alignment n }
+    ensures value { result ≡ is_file_alignment n }
+    ensures range { IsTrue result → (512 ≤ n) × (n ≤ 65536) }
 {
     FILE_ALIGNMENTS.iter().any(|power| n == *power)
 }
@@ -162,14 +164,15 @@ fn is_file_alignment(n: u32) -> bool
 pub fn test_alignments(bytes: &[u8], assembly: u32, headers: &Headers) -> Result<(), Refusal>
     requires short { length bytes.now < 2 ^ 32 }
     requires place { headers.now.pe + 4 ≤ length bytes.now }
-    ensures { first_of (optional_tests bytes.now assembly headers.now) ≡ goes_on result (first_of (directory_tests bytes.now assembly headers.now)) }
+    ensures tests { first_of (optional_tests bytes.now assembly headers.now) ≡ goes_on result (first_of (directory_tests bytes.now assembly headers.now)) }
+    ensures aligned { OnOk result (Aligned bytes.now headers.now) }
 {
     let pe = headers.pe;
     if bytes.len() < pe + 64 {
         return Err(first_cut(bytes, assembly, pe, &ALIGNMENT_FIELDS).unwrap());
     }
-    let section = read_u32_at(bytes, pe + 56).unwrap();
-    let file = read_u32_at(bytes, pe + 60).unwrap();
+    let section = section_alignment(bytes, headers);
+    let file = file_alignment(bytes, headers);
     if section < file {
         return Err(refusal_at(Rule::P3, assembly, pe + 56));
     }
@@ -189,6 +192,7 @@ pub fn cli_section(bytes: &[u8], assembly: u32, headers: &Headers) -> Result<Sec
     ensures section { IfOk result (λ s. section_of bytes.now headers.now (cli_rva bytes.now headers.now) 72 ≡ Some s) }
     ensures within { IfOk result (λ s. raw_end s ≤ length bytes.now) }
     ensures whole { OnOk result (table_end headers.now ≤ length bytes.now) }
+    ensures sections { OnOk result (first_of (section_tests bytes.now assembly (headers_size bytes.now headers.now) (headers_size bytes.now headers.now) headers.now.sections headers.now.count) ≡ None) }
 {
     let Headers {
         pe,
@@ -202,7 +206,7 @@ pub fn cli_section(bytes: &[u8], assembly: u32, headers: &Headers) -> Result<Sec
         }
         return Err(first_cut(bytes, assembly, directories, &DIRECTORY_FIELDS).unwrap());
     }
-    let size = read_u32_at(bytes, pe + 84).unwrap();
+    let size = headers_size(bytes, headers);
     let rva = cli_rva(bytes, headers);
     if count > 0 && bytes.len() < sections + 40 * count {
         return Err(section_fault(bytes, assembly, headers, size).unwrap());
@@ -228,15 +232,37 @@ pub fn cli_rva(bytes: &[u8], headers: &Headers) -> u32
 pub fn read_headers(bytes: &[u8], assembly: u32) -> Result<(Headers, Section), Refusal>
     requires { length bytes.now < 2 ^ 32 }
     ensures tests { first_of (header_tests bytes.now assembly) ≡ goes_on result None }
-    ensures headers { IfOk result (λ p. p.0 ≡ headers_of bytes.now) }
-    ensures fit { IfOk result (λ p. Fit p.0) }
+    ensures headers { IfOk result (λ p. InOrder bytes.now assembly p.0) }
     ensures section { IfOk result (λ p. section_of bytes.now p.0 (cli_rva bytes.now p.0) 72 ≡ Some p.1) }
     ensures within { IfOk result (λ p. raw_end p.1 ≤ length bytes.now) }
-    ensures whole { IfOk result (λ p. table_end p.0 ≤ length bytes.now) }
 {
     let pe = pe_place(bytes, assembly)?;
     let headers = coff(bytes, assembly, pe)?;
     test_alignments(bytes, assembly, &headers)?;
     let section = cli_section(bytes, assembly, &headers)?;
     Ok((headers, section))
+}
+
+/// SectionAlignment.
+pub fn section_alignment(bytes: &[u8], headers: &Headers) -> u32
+    requires { headers.now.pe + 60 ≤ length bytes.now }
+    ensures { result ≡ section_alignment bytes.now headers.now }
+{
+    read_u32_at(bytes, headers.pe + 56).unwrap()
+}
+
+/// FileAlignment.
+pub fn file_alignment(bytes: &[u8], headers: &Headers) -> u32
+    requires { headers.now.pe + 64 ≤ length bytes.now }
+    ensures { result ≡ file_alignment bytes.now headers.now }
+{
+    read_u32_at(bytes, headers.pe + 60).unwrap()
+}
+
+/// SizeOfHeaders.
+pub fn headers_size(bytes: &[u8], headers: &Headers) -> u32
+    requires { headers.now.pe + 88 ≤ length bytes.now }
+    ensures { result ≡ headers_size bytes.now headers.now }
+{
+    read_u32_at(bytes, headers.pe + 84).unwrap()
 }

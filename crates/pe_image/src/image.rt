@@ -1,14 +1,19 @@
 // An image behind its headers.
-ghost use Rattle.std.specs.Prelude.{◌≡◌, ◌+◌, ◌-◌, ◌<◌, ◌≤◌, ◌^◌, length, option_copied, Some, None, IfOk, OnOk, IfErr};
-ghost use Rattle.cil_base.specs.Refusals.{First, NoneBroken};
+ghost use Rattle.std.specs.Prelude.{◌≡◌, ◌+◌, ◌-◌, ◌<◌, ◌≤◌, ◌^◌, length, option_copied, Some, None, IfOk, OnOk, IfErr, Ok, Err};
+ghost use Rattle.cil_base.specs.Refusals.{First, NoneBroken, OnRefused};
+ghost use Rattle.pe_image.specs.Written.{grown_of};
 ghost use Rattle.pe_image.specs.Sections.{part, at_rva, tail_at};
 ghost use Rattle.pe_image.specs.Cli.{cli_of, metadata_of};
 ghost use Rattle.pe_image.specs.Rules.{Broken};
+ghost use Rattle.pe_image.specs.Growth.{room_of};
 
 use crate::cli::{CliHeader, read_cli};
+use crate::growth::room;
 use crate::headers::{Headers, cli_rva, read_headers};
 use crate::section::find_section;
-use cil_base::Refusal;
+use crate::write::write;
+use cil_base::{Bytes, Fault, Refusal};
+use std::alloc::Global;
 use std::marker::Model;
 
 /// A PE file with CLI metadata. It borrows the bytes of the file.
@@ -17,34 +22,33 @@ pub struct Image<'a> {
     bytes: &'a [u8],
     assembly: u32,
     headers: Headers,
+    cli_offset: usize,
     cli: CliHeader,
     metadata: &'a [u8],
 }
 
 impl<'a> Model for Image<'a> {
-    ghost use Rattle.std.specs.Prelude.{◌≡◌, ◌<◌, ◌≤◌, ◌^◌, length, None};
+    ghost use Rattle.std.specs.Prelude.{◌≡◌, ◌+◌, ◌≤◌, length, None};
     ghost use Rattle.cil_base.specs.Refusals.{first_of};
-    ghost use Rattle.pe_image.specs.Images.{File};
-    ghost use Rattle.pe_image.specs.Headers.{headers_of, table_end};
-    ghost use Rattle.pe_image.specs.Cli.{cli_of, metadata_of};
-    ghost use Rattle.pe_image.specs.Rules.{header_tests, cli_tests};
+    ghost use Rattle.pe_image.specs.Images.{File, InOrder};
+    ghost use Rattle.pe_image.specs.Cli.{cli_place, cli_of, metadata_of};
+    ghost use Rattle.pe_image.specs.Rules.{cli_tests};
 
     ghost Value = { File };
 
     ghost view = { λ i. record { bytes = i.bytes.now; assembly = i.assembly } };
 
     ghost invariant = { λ i.
-        (length i.bytes.now < 2 ^ 32)
-        × (first_of (header_tests i.bytes.now i.assembly) ≡ None)
+        InOrder i.bytes.now i.assembly i.headers
         × (first_of (cli_tests i.bytes.now i.assembly i.headers) ≡ None)
-        × (i.headers ≡ headers_of i.bytes.now)
-        × (table_end i.headers ≤ length i.bytes.now)
+        × (i.cli_offset ≡ cli_place i.bytes.now i.headers)
+        × (i.cli_offset + 72 ≤ length i.bytes.now)
         × (i.cli ≡ cli_of i.bytes.now)
         × (i.metadata.now ≡ metadata_of i.bytes.now) };
 }
 
 /// The bytes from a place on, as many as asked for where the file has them.
-fn part(bytes: &[u8], at: usize, len: usize) -> &[u8]
+pub fn part(bytes: &[u8], at: usize, len: usize) -> &[u8]
     ensures { result.now ≡ part bytes.now at len }
 {
     let rest = &bytes[at.min(bytes.len())..];
@@ -62,7 +66,8 @@ impl<'a> Image<'a> {
     {
         let (headers, section) = read_headers(bytes, assembly)?;
         let rva = cli_rva(bytes, &headers);
-        let (cli, section) = read_cli(bytes, assembly, &headers, rva, section.place(rva))?;
+        let cli_offset = section.place(rva);
+        let (cli, section) = read_cli(bytes, assembly, &headers, rva, cli_offset)?;
         let metadata = part(
             bytes,
             section.place(cli.metadata_rva),
@@ -72,6 +77,7 @@ impl<'a> Image<'a> {
             bytes,
             assembly,
             headers,
+            cli_offset,
             cli,
             metadata,
         })
@@ -106,4 +112,36 @@ impl<'a> Image<'a> {
     {
         self.cli
     }
+
+    /// The RVA of a new section. P5 where there is no room for its header.
+    pub fn room(&self) -> Result<u32, Refusal>
+        ensures { result ≡ room_of self.now.bytes self.now.assembly }
+    {
+        room(self.bytes, self.assembly, &self.headers)
+    }
+}
+
+/// The image with one more section `.ccrw` of these bytes, whose metadata stands at an RVA in it. All
+/// else is as the definition of a grown image says. P5 and L6.
+pub fn write_image(
+    alloc: Global,
+    img: &Image<'_>,
+    section: &[u8],
+    metadata_rva: u32,
+    metadata_len: u32,
+) -> Result<Bytes, Fault>
+    requires { length section.now < 2 ^ 32 }
+    ensures ok { IfOk result (λ out. grown_of img.now.bytes img.now.assembly section.now metadata_rva metadata_len ≡ Ok out) }
+    ensures refused { OnRefused result (λ r. grown_of img.now.bytes img.now.assembly section.now metadata_rva metadata_len ≡ Err r) }
+{
+    let cli = img.cli.grown(metadata_rva, metadata_len);
+    write(
+        alloc,
+        img.bytes,
+        img.assembly,
+        &img.headers,
+        img.cli_offset,
+        &cli,
+        section,
+    )
 }

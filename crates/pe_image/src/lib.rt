@@ -3,11 +3,13 @@
 
 mod cli;
 mod fields;
+mod growth;
 mod headers;
 mod image;
 mod section;
 #[cfg(test)]
 mod tests;
+mod write;
 
 pub use cli::CliHeader;
-pub use image::Image;
+pub use image::{Image, write_image};

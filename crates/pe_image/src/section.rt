@@ -50,6 +50,7 @@ static SECTION_FIELDS: [Field; 6] = [
 impl Section {
     ghost use Rattle.pe_image.specs.Sections.{section_at, holds, place_in, address_end, raw_end};
     ghost use Rattle.pe_image.specs.Rules.{is_misplaced};
+    ghost use Rattle.pe_image.specs.Written.{moved};
 
     /// The section whose header stands at `at`.
     pub fn read(bytes: &[u8], at: usize) -> Section
@@ -86,9 +87,22 @@ impl Section {
         (self.address as usize + self.raw_size as usize).saturating_sub(rva as usize)
     }
 
+    /// The place of its raw bytes, where all raw bytes move by as much.
+    pub fn moved(&self, by: u32) -> u32
+        requires { 0 < self.now.raw_size → self.now.raw_at + by < 2 ^ 32 }
+        ensures { result ≡ moved self.now by }
+    {
+        if self.raw_size > 0 {
+            self.raw_at + by
+        } else {
+            self.raw_at
+        }
+    }
+
     /// The end of its RVAs.
     pub fn address_end(&self) -> u64
-        ensures { result ≡ address_end self.now }
+        ensures end { result ≡ address_end self.now }
+        ensures small { result < 2 ^ 33 }
     {
         u64::from(self.address) + u64::from(self.virtual_size.max(self.raw_size))
     }

@@ -1,10 +1,11 @@
 // An assembly's image with three sections, and what becomes of it where a byte of it changes.
 ghost use Rattle.std.specs.Prelude.{◌≡◌, ◌+◌, ◌<◌, ◌≤◌, length};
 
-use crate::{CliHeader, Image};
+use crate::{CliHeader, Image, write_image};
 use byteorder::{ByteOrder, LittleEndian};
 use cil_base::{Refusal, Rule};
 use std::process::Abort;
+use std::test::Fail;
 
 const SIZE: usize = 0x800;
 
@@ -42,6 +43,14 @@ fn sample(is_plus: bool) -> [u8; SIZE] {
     put(&mut bytes, 0xBC, 0x200);
     put(&mut bytes, 0xD0, 0x8000);
     put(&mut bytes, 0xD4, 0x200);
+    // symbols, a checksum, a certificate and debug data
+    put(&mut bytes, 0x8C, 0x700);
+    put(&mut bytes, 0x90, 3);
+    put(&mut bytes, 0xD8, 0xABCD_EF01);
+    put(&mut bytes, directories + 32, 0x780);
+    put(&mut bytes, directories + 36, 0x80);
+    put(&mut bytes, directories + 48, 0x2100);
+    put(&mut bytes, directories + 52, 0x1C);
     put(&mut bytes, directories + 112, 0x2000);
     put(&mut bytes, directories + 116, 72);
     put_section(&mut bytes, 0x98 + size as usize, 0x2000, 0x200);
@@ -52,6 +61,8 @@ fn sample(is_plus: bool) -> [u8; SIZE] {
     put(&mut bytes, 0x20C, 0x64);
     put(&mut bytes, 0x210, 9);
     put(&mut bytes, 0x214, 0x0600_0001);
+    put(&mut bytes, 0x220, 0x2180);
+    put(&mut bytes, 0x224, 0x80);
     put(&mut bytes, 0x248, 0x424A_5342);
     put(&mut bytes, 0x3FC, 0x1234_5678);
     bytes
@@ -177,4 +188,92 @@ fn reads(rt: &impl Abort, is_plus: bool) {
 fn both_kinds_of_optional_header_are_read(rt: HostRuntime) {
     reads(&rt, false);
     reads(&rt, true);
+}
+
+const SECTION: [u8; 0x250] = [0x5A; 0x250];
+
+/// The sample with one more section of 0x250 bytes, with metadata of 0x40 bytes at RVA 0x8010: the
+/// headers had no room, so they take one unit of 0x200 bytes more.
+fn grown_sample() -> [u8; 0xE00] {
+    let old = sample(false);
+    let mut bytes = [0; 0xE00];
+    for (i, byte) in old.iter().enumerate() {
+        if i < 0x1F0 {
+            bytes[i] = *byte;
+        } else if i >= 0x200 {
+            bytes[i + 0x200] = *byte;
+        }
+    }
+    for i in 0xA00..0xC50 {
+        bytes[i] = 0x5A;
+    }
+    put(&mut bytes, 0x84, 0x4014C);
+    put(&mut bytes, 0x8C, 0);
+    put(&mut bytes, 0x90, 0);
+    put(&mut bytes, 0xD0, 0xA000);
+    put(&mut bytes, 0xD4, 0x400);
+    put(&mut bytes, 0xD8, 0);
+    put(&mut bytes, 0x118, 0);
+    put(&mut bytes, 0x11C, 0);
+    put(&mut bytes, 0x128, 0);
+    put(&mut bytes, 0x12C, 0);
+    put(&mut bytes, 0x18C, 0x400);
+    put(&mut bytes, 0x1B4, 0x600);
+    put(&mut bytes, 0x1DC, 0x800);
+    put(&mut bytes, 0x1F0, 0x7263_632E);
+    put(&mut bytes, 0x1F4, 0x77);
+    put(&mut bytes, 0x1F8, 0x250);
+    put(&mut bytes, 0x1FC, 0x8000);
+    put(&mut bytes, 0x200, 0x400);
+    put(&mut bytes, 0x204, 0xA00);
+    put(&mut bytes, 0x214, 0x6000_0020);
+    put(&mut bytes, 0x408, 0x8010);
+    put(&mut bytes, 0x40C, 0x40);
+    put(&mut bytes, 0x410, 1);
+    put(&mut bytes, 0x420, 0);
+    put(&mut bytes, 0x424, 0);
+    bytes
+}
+
+#[test]
+fn an_image_grows_by_one_section(rt: HostRuntime) -> Result<(), Fail> {
+    let bytes = sample(false);
+    let image = Image::read(&bytes, 7).expect(&rt, "an image");
+    assert_eq!(rt; image.room(), Ok(0x8000));
+    let out = write_image(rt.alloc(), &image, &SECTION, 0x8010, 0x40)?;
+    assert_eq!(rt; out.as_slice(), &grown_sample()[..]);
+    Ok(())
+}
+
+#[test]
+fn a_grown_image_grows_again(rt: HostRuntime) -> Result<(), Fail> {
+    let bytes = grown_sample();
+    let image = Image::read(&bytes, 7).expect(&rt, "an image");
+    assert_eq!(rt; image.metadata(), &SECTION[..0x40]);
+    assert_eq!(rt; image.room(), Ok(0xA000));
+    let out = write_image(rt.alloc(), &image, &SECTION[..0x100], 0xA000, 0x100)?;
+    assert_eq!(rt; out.len(), 0x1000);
+    assert!(rt; out.len() == 0x1000);
+    let again = Image::read(out.as_slice(), 7).expect(&rt, "an image");
+    assert_eq!(rt; again.metadata(), &SECTION[..0x100]);
+    assert_eq!(rt; again.at_rva(0x21FC, 4), Some(&bytes[0x5FC..0x600]));
+    assert_eq!(rt; again.at_rva(0x8000, 0x400), Some(&bytes[0xA00..0xE00]));
+    assert_eq!(rt; again.room(), Ok(0xC000));
+    Ok(())
+}
+
+#[test]
+fn no_room_for_a_section(rt: HostRuntime) {
+    // the first section begins behind the headers, but not behind one unit more
+    let mut bytes = sample(false);
+    put(&mut bytes, 0x168, 0x300);
+    put(&mut bytes, 0x184, 0x300);
+    put(&mut bytes, 0x208, 0x348);
+    let image = Image::read(&bytes, 7).expect(&rt, "an image");
+    assert_eq!(rt; image.room(), Err(broken(Rule::P5, 212)));
+    // the last section ends too near to the end of all RVAs
+    let mut bytes = sample(false);
+    put(&mut bytes, 0x1D4, 0xF800_0000);
+    let image = Image::read(&bytes, 7).expect(&rt, "an image");
+    assert_eq!(rt; image.room(), Err(broken(Rule::P5, 212)));
 }

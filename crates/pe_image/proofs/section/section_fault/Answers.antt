@@ -36,7 +36,7 @@ loop-i-preserved c =
     ] in
     c.loop-i.invariant
     ∙ tests_on c.args.bytes.now c.args.assembly c.loop-i.address_floor c.loop-i.raw_floor at next (h.count - c.loop-i.i) (h.count - (c.loop-i.i + 1)) (left h.count c.loop-i.i c.loop-i-test.true) (omega arith) (omega arith) (cc)
-    ∙ floors c.args.bytes.now c.args.assembly (address_end s) c.address_end-address_floor.result (cond (nat_lt 0 s.raw_size) (raw_end s) c.loop-i.raw_floor) c.if-section-gt0.raw_floor next (h.count - (c.loop-i.i + 1)) (sym (c.address_end-address_floor.ensures ∙ ap address_end same)) raw_floor
+    ∙ floors c.args.bytes.now c.args.assembly (address_end s) c.address_end-address_floor.result (cond (nat_lt 0 s.raw_size) (raw_end s) c.loop-i.raw_floor) c.if-section-gt0.raw_floor next (h.count - (c.loop-i.i + 1)) (sym (c.address_end-address_floor.ensures.end ∙ ap address_end same)) raw_floor
 
 pub returns-clause-whole : goal.returns-clause-whole
 returns-clause-whole c =

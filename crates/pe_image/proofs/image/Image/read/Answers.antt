@@ -22,33 +22,35 @@ read_cli-requires-clause-here c =
     let h = c.in_ok-headers.headers in
     let s = c.in_ok-headers.section in
     let le : place_in s (cli_rva b h) + 72 ≤ length b = place_within b h (cli_rva b h) 72 s c.in_ok-headers.ensures.section c.in_ok-headers.ensures.within in
-    rw (c.place.ensures, c.cli_rva-rva.ensures) le
+    rw (c.place-cli_offset.ensures, c.cli_rva-rva.ensures) le
 
 pub returns-in_err-cli-clause-refused : goal.returns-in_err-cli-clause-refused
 returns-in_err-cli-clause-refused c =
     let b = c.args.bytes.now in
     let a = c.args.assembly in
     let h = c.in_ok-headers.headers in
-    let at : c.place.result ≡ cli_place b h = place_is b h c.in_ok-headers.section c.cli_rva-rva.result c.place.result c.cli_rva-rva.ensures c.in_ok-headers.ensures.section c.place.ensures in
+    let at : c.place-cli_offset.result ≡ cli_place b h = place_is b h c.in_ok-headers.section c.cli_rva-rva.result c.place-cli_offset.result c.cli_rva-rva.ensures c.in_ok-headers.ensures.section c.place-cli_offset.ensures in
     let p = err_from_is_err_and c.from_residual-in_err-cli.result c.from_residual-in_err-cli.ensures.1 in
     rw (p.1, p.2)
     (refused_cli b a c.in_err-cli.field-0.0 c.requires c.in_ok-headers.ensures.tests
-    (ap (λ (k : Headers). first_of (cli_tests b a k)) (sym c.in_ok-headers.ensures.headers) ∙ cli_same b a h c.place.result at ∙ c.in_err-cli.ensures.tests))
+    (ap (λ (k : Headers). first_of (cli_tests b a k)) (sym c.in_ok-headers.ensures.headers.headers) ∙ cli_same b a h c.place-cli_offset.result at ∙ c.in_err-cli.ensures.tests))
 
 pub invariant_of-result : goal.invariant_of-result
 invariant_of-result c =
     let b = c.args.bytes.now in
     let a = c.args.assembly in
     let h = c.in_ok-headers.headers in
-    let at : c.place.result ≡ cli_place b h = place_is b h c.in_ok-headers.section c.cli_rva-rva.result c.place.result c.cli_rva-rva.ensures c.in_ok-headers.ensures.section c.place.ensures in
-    let same : c.in_ok-cli.cli ≡ cli_of b = cli_is b h c.cli_rva-rva.result c.place.result c.in_ok-cli.cli c.in_ok-headers.ensures.headers c.cli_rva-rva.ensures at c.in_ok-cli.ensures.cli in (
-      c.requires,
-      c.in_ok-headers.ensures.tests,
-      cli_same b a h c.place.result at ∙ c.in_ok-cli.ensures.tests,
+    let at : c.place-cli_offset.result ≡ cli_place b h = place_is b h c.in_ok-headers.section c.cli_rva-rva.result c.place-cli_offset.result c.cli_rva-rva.ensures c.in_ok-headers.ensures.section c.place-cli_offset.ensures in
+    let s = c.in_ok-headers.section in
+    let le : place_in s (cli_rva b h) + 72 ≤ length b = place_within b h (cli_rva b h) 72 s c.in_ok-headers.ensures.section c.in_ok-headers.ensures.within in
+    let here : c.place-cli_offset.result + 72 ≤ length b = rw (c.place-cli_offset.ensures, c.cli_rva-rva.ensures) le in
+    let same : c.in_ok-cli.cli ≡ cli_of b = cli_is b h c.cli_rva-rva.result c.place-cli_offset.result c.in_ok-cli.cli c.in_ok-headers.ensures.headers.headers c.cli_rva-rva.ensures at c.in_ok-cli.ensures.cli in (
       c.in_ok-headers.ensures.headers,
-      c.in_ok-headers.ensures.whole,
+      cli_same b a h c.place-cli_offset.result at ∙ c.in_ok-cli.ensures.tests,
+      at,
+      here,
       same,
-      metadata_is b h c.in_ok-cli.cli c.in_ok-cli.section c.place-2.result c.part-metadata.result.now c.in_ok-headers.ensures.headers same c.in_ok-cli.ensures.section c.place-2.ensures c.part-metadata.ensures,
+      metadata_is b h c.in_ok-cli.cli c.in_ok-cli.section c.place.result c.part-metadata.result.now c.in_ok-headers.ensures.headers.headers same c.in_ok-cli.ensures.section c.place.ensures c.part-metadata.ensures,
     )
 
 pub returns-clause-accepted : goal.returns-clause-accepted
@@ -56,6 +58,6 @@ returns-clause-accepted c =
     let b = c.args.bytes.now in
     let a = c.args.assembly in
     let h = c.in_ok-headers.headers in
-    let at : c.place.result ≡ cli_place b h = place_is b h c.in_ok-headers.section c.cli_rva-rva.result c.place.result c.cli_rva-rva.ensures c.in_ok-headers.ensures.section c.place.ensures in
+    let at : c.place-cli_offset.result ≡ cli_place b h = place_is b h c.in_ok-headers.section c.cli_rva-rva.result c.place-cli_offset.result c.cli_rva-rva.ensures c.in_ok-headers.ensures.section c.place-cli_offset.ensures in
     accepted b a c.requires c.in_ok-headers.ensures.tests
-    (ap (λ (k : Headers). first_of (cli_tests b a k)) (sym c.in_ok-headers.ensures.headers) ∙ cli_same b a h c.place.result at ∙ c.in_ok-cli.ensures.tests)
+    (ap (λ (k : Headers). first_of (cli_tests b a k)) (sym c.in_ok-headers.ensures.headers.headers) ∙ cli_same b a h c.place-cli_offset.result at ∙ c.in_ok-cli.ensures.tests)
