@@ -1,15 +1,19 @@
 -- A heap that grows: look-ups of appended entries, and what is read.
-use Rattle.std.proofs.Common.{◌≡◌, ℕ, ◌+◌, ◌^◌, ◌≤◌, ◌<◌, eqb, Bool, true, false, cond, List, [], ◌∷◌, ◌++◌, length, Option, Some, None, IfSome, refl, sym, ap, ap₂, subst, ◌∙◌, arith, append_assoc, length-append, inl, inr, ◌⊎◌}
+use Rattle.std.proofs.Common.{◌≡◌, ℕ, ◌+◌, ◌^◌, ◌≤◌, ◌<◌, eqb, Bool, true, false, cond, List, [], ◌∷◌, ◌++◌, length, drop, append-nil, Option, Some, None, IfSome, refl, sym, ap, ap₂, subst, ◌∙◌, arith, append_assoc, length-append, inl, inr, ◌⊎◌}
 use Rattle.std.specs.Prelude.{Vec, Result, Ok, Err, IfOk, OnErr, MatchOption}
 use Rattle.std.specs.List.{list_any}
 use Rattle.std.specs.Map.{lookup}
 use Rattle.std.specs.Cmp.Lexicographic.{pointwise, bytes_decides}
 use Rattle.std.specs.declared.alloc.Global.{Global}
+use Rattle.std.proofs.lemmas.Bool.{eqb-true}
 use Rattle.cil_base.specs.Packed.{packed_spelling}
 use Rattle.cil_base.specs.declared.refusal.Fault.{Fault}
 use Rattle.cli_heaps.specs.Root.{is_zero}
 use Rattle.cli_heaps.specs.Entries.{string_at, blob_at}
-use Rattle.cli_heaps.specs.Growth.{Growth, no_growth, place_of, grown_length, front, next_place, appended, Appends, ReadsAt, KeepsEntries, AllRead, string_entry, blob_entry, contents_of}
+use Rattle.cli_heaps.specs.Growth.{Growth, no_growth, place_of, grown_length, front, next_place, appended, Appends, ReadsAt, KeepsEntries, AllRead, string_entry, blob_entry, contents_of, KeepsUsers}
+use Rattle.std.proofs.lemmas.List.{drop-append-le}
+use Rattle.cli_heaps.specs.RootRules.{is_users, is_user_length}
+use Rattle.cli_heaps.proofs.UserLaws.{users_join, users_one}
 use Rattle.cli_heaps.proofs.ReadLaws.{if_some, string_kept, blob_kept, string_added, blob_added}
 
 -- ---- the map
@@ -153,3 +157,43 @@ reads_strings g new s limit r none ok err old = reads_after string_at string_kep
 
 pub reads_blobs : (g new : Growth) (b : List ℕ) (limit : ℕ) (r : Result ℕ Fault) → limit < 2 ^ 29 → IfOk r (λ at. Appends g b (blob_entry b) limit at new) → OnErr r (new ≡ g) → AllRead blob_at g → Reads blob_at g new b r
 reads_blobs g new b limit r small ok err old = reads_after blob_at blob_kept g new b (blob_entry b) limit r ok err old (λ le. fresh_blob g b (omega (arith, length-append (packed_spelling (length b)) b, le)))
+
+-- ---- user strings stay whole
+
+pub no_users : (base : ℕ) → KeepsUsers (no_growth base)
+no_users base heap long whole = ap (λ (l : List ℕ). is_users 0 (drop 1 l)) (append-nil heap) ∙ whole
+
+drop_join : (xs ys : List ℕ) → 1 ≤ length xs → drop 1 (xs ++ ys) ≡ drop 1 xs ++ ys
+drop_join xs ys le = drop-append-le 1 xs ys le
+
+-- the whole heap with what stands in front of the entry
+before_whole : (g : Growth) (heap : List ℕ) → length heap ≡ g.base → is_users 0 (drop 1 (heap ++ g.added)) ≡ true → is_users 0 (drop 1 (before g heap)) ≡ true
+unfolding before
+before_whole g heap long whole = go (eqb (grown_length g) 0) refl
+  where
+    go : (b : Bool) → eqb (grown_length g) 0 ≡ b → is_users 0 (drop 1 (heap ++ (g.added ++ cond b (0 ∷ []) []))) ≡ true
+    go false e = ap (λ (l : List ℕ). is_users 0 (drop 1 (heap ++ l))) (append-nil g.added) ∙ whole
+    go true e =
+        let empty : heap ++ g.added ≡ [] = nothing (heap ++ g.added) (length-append heap g.added ∙ ap (λ (k : ℕ). k + length g.added) long ∙ eqb-true (grown_length g) 0 e) in
+        ap (λ (l : List ℕ). is_users 0 (drop 1 l)) (sym (append_assoc heap g.added (0 ∷ []))) ∙ ap (λ (l : List ℕ). is_users 0 (drop 1 (l ++ 0 ∷ []))) empty
+      where
+        nothing : (l : List ℕ) → length l ≡ 0 → l ≡ []
+        nothing [] h = refl
+        nothing (x ∷ xs) h = absurd (omega arith)
+
+pub users_appended : (g : Growth) (content : List ℕ) → KeepsUsers g → length content < 2 ^ 29 → is_user_length (length content) ≡ true → KeepsUsers (appended g content (blob_entry content))
+users_appended g content kept small odd heap long whole =
+    let front_whole : is_users 0 (drop 1 (before g heap)) ≡ true = before_whole g heap long (kept heap long whole) in
+    let some : 1 ≤ length (before g heap) = omega (arith, before_length g heap long, next_positive g) in
+    ap (λ (l : List ℕ). is_users 0 (drop 1 l)) (before_entry g heap (blob_entry content))
+    ∙ ap (is_users 0) (drop_join (before g heap) (blob_entry content) some)
+    ∙ users_join 0 (drop 1 (before g heap)) (blob_entry content) front_whole
+    ∙ users_one content small odd
+
+pub users_after : (g new : Growth) (content : List ℕ) (limit : ℕ) (r : Result ℕ Fault) → limit < 2 ^ 29 → is_user_length (length content) ≡ true → IfOk r (λ at. Appends g content (blob_entry content) limit at new) → OnErr r (new ≡ g) → KeepsUsers g → KeepsUsers new
+users_after g new content limit (Err e) small odd ok err old = subst KeepsUsers (sym err) old
+users_after g new content limit (Ok at) small odd ok err old = go (place_of g content) ok
+  where
+    go : (o : Option ℕ) → MatchOption o ((at ≡ next_place g) × (new ≡ appended g content (blob_entry content)) × (next_place g + length (blob_entry content) ≤ limit)) (λ n. (at ≡ n) × (new ≡ g)) → KeepsUsers new
+    go None m = subst KeepsUsers (sym m.1) (users_appended g content old (omega (arith, length-append (packed_spelling (length content)) content, m.2)) odd)
+    go (Some n) m = subst KeepsUsers (sym m.1) old

@@ -1,8 +1,11 @@
 -- Entries of the stream of user strings, one after another.
-use Rattle.std.proofs.Common.{◌≡◌, ℕ, zero, suc, ◌+◌, ◌-◌, ◌≤◌, ◌<◌, ltb, leb, Bool, true, false, cond, ◌&&◌, List, [], ◌∷◌, length, drop, get_or, drop-cons, Some, None, refl, sym, ap, ◌∙◌, arith}
-use Rattle.std.proofs.lemmas.Bool.{le-leb}
-use Rattle.std.proofs.lemmas.List.{drop-drop, length-drop}
-use Rattle.cil_base.specs.Packed.{packed_front, packed_two, packed_four, packed_at}
+use Rattle.std.proofs.Common.{◌≡◌, ℕ, zero, suc, ◌+◌, ◌-◌, ◌*◌, eqb, Option, ◌≤◌, ◌<◌, ltb, leb, Bool, true, false, cond, ◌&&◌, ◌||◌, ◌%◌, ◌^◌, ◌++◌, length-append, List, [], ◌∷◌, length, drop, get_or, drop-cons, Some, None, refl, sym, ap, ◌∙◌, arith}
+use Rattle.std.proofs.lemmas.Bool.{le-leb, eq-eqb}
+use Rattle.std.proofs.lemmas.List.{drop-drop, length-drop, drop_all}
+use Rattle.std.specs.List.{flat_map}
+use Rattle.cil_base.specs.Packed.{packed_front, packed_two, packed_four, packed_at, packed_spelling}
+use Rattle.cli_heaps.specs.Growth.{unit_bytes, user_content}
+use Rattle.cli_heaps.proofs.ReadLaws.{packed_kept, spelling_read}
 use Rattle.cli_heaps.specs.RootRules.{is_user_length, is_entry, is_users}
 
 width_of : (x y : ℕ × ℕ) → Some x ≡ Some y → x.1 ≡ y.1
@@ -85,3 +88,49 @@ pub users_cut : (bytes : List ℕ) (at : ℕ) → at < length bytes → packed_a
 users_cut bytes at lt e =
     let begins = front bytes at lt in
     ap (is_users 0) begins ∙ ap (is_entry (λ (left : ℕ). is_users left (drop (suc at) bytes))) (sym (ap packed_front begins) ∙ e)
+
+-- entries, and behind them further entries
+pub users_join : (left : ℕ) (xs ys : List ℕ) → is_users left xs ≡ true → is_users left (xs ++ ys) ≡ is_users 0 ys
+users_join zero [] ys h = refl
+users_join (suc left) [] ys h = absurd (differ h)
+  where
+    differ : false ≡ true → ⊥
+    differ k = cc
+users_join (suc left) (x ∷ xs) ys h = users_join left xs ys h
+users_join zero (b ∷ rest) ys h = go (λ left k. users_join left rest ys k) (packed_front (b ∷ rest)) refl h
+  where
+    go : ((left : ℕ) → is_users left rest ≡ true → is_users left (rest ++ ys) ≡ is_users 0 ys) → (o : Option (ℕ × ℕ)) → packed_front (b ∷ rest) ≡ o → is_entry (λ left. is_users left rest) o ≡ true
+        → is_entry (λ left. is_users left (rest ++ ys)) (packed_front (b ∷ (rest ++ ys))) ≡ is_users 0 ys
+    go behind None e k = absurd cc
+    go behind (Some (n, width)) e k = ap (is_entry (λ left. is_users left (rest ++ ys))) (packed_kept (b ∷ rest) ys (n, width) e) ∙ both (is_user_length n) k
+      where
+        both : (c : Bool) → (c && is_users (n + width - 1) rest) ≡ true → (c && is_users (n + width - 1) (rest ++ ys)) ≡ is_users 0 ys
+        both true l = behind (n + width - 1) l
+        both false l = absurd cc
+
+-- one entry of an allowed length
+pub users_one : (b : List ℕ) → length b < 2 ^ 29 → is_user_length (length b) ≡ true → is_users 0 (packed_spelling (length b) ++ b) ≡ true
+users_one b small odd =
+    let width = length (packed_spelling (length b)) in
+    let entry = packed_spelling (length b) ++ b in
+    let read : packed_at entry 0 ≡ Some (length b, width) = spelling_read (length b) b small in
+    let positive : 1 ≤ width = width_positive entry (length b) width read in
+    let long : length entry ≡ width + length b = length-append (packed_spelling (length b)) b in
+    let within : leb (0 + length b + width) (length entry) ≡ true = le-leb (0 + length b + width) (length entry) (omega (arith, long)) in
+    let none : drop (0 + length b + width) entry ≡ [] = drop_all (0 + length b + width) entry (omega (arith, long)) in
+    users_step entry 0 (length b) width (omega (arith, long, positive)) read ∙ rw (odd, within) (ap (is_users 0) none)
+
+-- the units take two bytes each, and one byte stands behind them
+pub user_content_odd : (units : List ℕ) → is_user_length (length (user_content units)) ≡ true
+user_content_odd units = odd (length (user_content units)) (length units) (length-append (flat_map unit_bytes units) _ ∙ ap (λ (k : ℕ). k + 1) (twice units))
+  where
+    twice : (us : List ℕ) → length (flat_map unit_bytes us) ≡ 2 * length us
+    twice [] = refl
+    twice (u ∷ us) = let rest = twice us in omega (arith, rest)
+
+    odd : (n k : ℕ) → n ≡ 2 * k + 1 → is_user_length n ≡ true
+    odd n k e = let r : n % 2 ≡ 1 = omega arith in some_or (eqb n 0) (eq-eqb (n % 2) 1 r)
+      where
+        some_or : (a : Bool) {b : Bool} → b ≡ true → (a || b) ≡ true
+        some_or true h = refl
+        some_or false h = h

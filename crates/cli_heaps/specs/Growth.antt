@@ -1,5 +1,5 @@
 -- Heaps that grow at their end (ECMA-335, II.24.2.3 and II.24.2.4).
-use Rattle.std.specs.Prelude.{◌≡◌, ℕ, ◌+◌, ◌/◌, ◌%◌, ◌≤◌, ◌<◌, Bool, ◌||◌, ◌&&◌, ◌==◌, nat_le, List, [], ◌∷◌, ◌++◌, length, Option, Some, None, MatchOption, IfSome, Vec, if◌then◌else◌}
+use Rattle.std.specs.Prelude.{◌≡◌, ℕ, ◌+◌, ◌/◌, ◌%◌, ◌≤◌, ◌<◌, Bool, ◌||◌, ◌&&◌, ◌==◌, nat_le, List, [], ◌∷◌, ◌++◌, length, drop, true, Option, Some, None, MatchOption, IfSome, Vec, if◌then◌else◌}
 use Rattle.std.specs.List.{flat_map, list_any}
 use Rattle.std.specs.Cmp.Lexicographic.{pointwise}
 use Rattle.std.specs.Map.{lookup}
@@ -7,6 +7,7 @@ use Rattle.std.specs.declared.alloc.Global.{Global}
 use Rattle.cil_base.specs.declared.rule.Rule.TheVariants.{L5}
 use Rattle.cil_base.specs.declared.refusal.Refusal.{Refusal}
 use Rattle.cil_base.specs.Packed.{packed_spelling}
+use Rattle.cli_heaps.specs.RootRules.{is_users}
 
 -- base: how many bytes the heap had; added: what stands behind them; entries: the contents of the appended entries, and their places
 pub record Growth : Type 0 where
@@ -60,6 +61,10 @@ KeepsEntries read g new = (heap : List ℕ) (at : ℕ) → IfSome (read (heap ++
 -- each appended entry is read at its place
 abbrev pub AllRead : (List ℕ → ℕ → Option (List ℕ)) → Growth → Type 0
 AllRead read g = (content : List ℕ) (at : ℕ) → place_of g content ≡ Some at → ReadsAt read g at content
+
+-- the bytes of the grown heap from place 1 on are whole user strings, where those of the old heap are
+abbrev pub KeepsUsers : Growth → Type 0
+KeepsUsers g = (heap : List ℕ) → length heap ≡ g.base → is_users 0 (drop 1 heap) ≡ true → is_users 0 (drop 1 (heap ++ g.added)) ≡ true
 
 -- ---- entries
 

@@ -4,7 +4,7 @@ ghost use Rattle.std.specs.List.{list_any, flat_map};
 ghost use Rattle.cil_base.specs.Refusals.{OnRefused};
 ghost use Rattle.cli_heaps.specs.Root.{Metadata, is_zero, strings, blobs, users};
 ghost use Rattle.cli_heaps.specs.Entries.{string_at, blob_at};
-ghost use Rattle.cli_heaps.specs.Growth.{Growth, Growths, no_growth, place_of, Appends, IsFull, ReadsAt, KeepsEntries, string_entry, blob_entry, user_content, is_special, unit_bytes, full};
+ghost use Rattle.cli_heaps.specs.Growth.{Growth, Growths, no_growth, place_of, Appends, IsFull, ReadsAt, KeepsEntries, KeepsUsers, string_entry, blob_entry, user_content, is_special, unit_bytes, full};
 
 use crate::grown::{Grown, full};
 use crate::heaps::Heaps;
@@ -30,13 +30,13 @@ pub struct HeapBuilder {
 
 impl Model for HeapBuilder {
     ghost use Rattle.cli_heaps.specs.Entries.{string_at, blob_at};
-    ghost use Rattle.cli_heaps.specs.Growth.{Growths, AllRead};
+    ghost use Rattle.cli_heaps.specs.Growth.{Growths, AllRead, KeepsUsers};
 
     ghost Value = { Growths };
 
     ghost view = { λ b. record { strings = b.strings; blobs = b.blobs; users = b.users } };
 
-    ghost invariant = { λ b. AllRead string_at b.strings × AllRead blob_at b.blobs × AllRead blob_at b.users };
+    ghost invariant = { λ b. AllRead string_at b.strings × AllRead blob_at b.blobs × AllRead blob_at b.users × KeepsUsers b.users };
 }
 
 /// Whether a unit needs the last byte 1 (ECMA-335, II.24.2.4).
@@ -138,7 +138,9 @@ impl HeapBuilder {
 
     /// What stands behind the old bytes of `#US`.
     pub fn users_added(&self) -> &[u8]
-        ensures { result.now ≡ self.now.users.added }
+        ensures added { result.now ≡ self.now.users.added }
+        // With them `#US` is still whole entries, as the rules want.
+        ensures whole { KeepsUsers self.now.users }
     {
         self.users.added()
     }

@@ -3,7 +3,7 @@ ghost use Rattle.std.specs.Prelude.{◌≡◌, ◌<◌, ◌≤◌, ◌^◌, ◌+
 ghost use Rattle.std.specs.Option.{option_copied};
 ghost use Rattle.cil_base.specs.Refusals.{First, NoneBroken};
 ghost use Rattle.cil_base.specs.Numbers.{num};
-ghost use Rattle.cli_heaps.specs.Root.{Metadata, strings, blobs, users, guids, tables, tables_offset, first_named, streams};
+ghost use Rattle.cli_heaps.specs.Root.{Metadata, strings, blobs, users, guids, tables, tables_offset, first_named, stream_bytes, streams};
 ghost use Rattle.cli_heaps.specs.RootRules.{Broken};
 ghost use Rattle.cli_heaps.specs.Entries.{string_at, blob_at, guid_at, is_guid_index};
 
@@ -71,6 +71,13 @@ impl<'a> Heaps<'a> {
         ensures { IfOk result (λ v. v.items ≡ streams self.now.bytes) }
     {
         streams::all_streams(alloc, self.meta)
+    }
+
+    /// The bytes of a stream of this metadata.
+    pub fn stream_bytes(&self, stream: &Stream<'_>) -> &'a [u8]
+        ensures { result.now ≡ stream_bytes self.now.bytes stream.now }
+    {
+        streams::bytes_in(self.meta, stream)
     }
 
     /// The whole metadata.

@@ -11,3 +11,6 @@ mod streams;
 pub use builder::HeapBuilder;
 pub use heaps::Heaps;
 pub use streams::Stream;
+
+#[cfg(test)]
+mod tests;

@@ -5,7 +5,7 @@ use Rattle.cli_heaps.proofs.builder.HeapBuilder.append_string.Goals as goal
 pub invariant_of-self : goal.invariant_of-self
 invariant_of-self c =
     let reads = reads_strings c.self.inside.strings c.append_ended.new.grown c.args.s.now (2 ^ 28) c.append_ended.result c.requires c.append_ended.ensures.ok c.append_ended.ensures.unchanged c.self.invariant.0 in
-    (reads.all, c.self.invariant.1, c.self.invariant.2)
+    (reads.all, c.self.invariant.1, c.self.invariant.2, c.self.invariant.3)
 
 pub returns-clause-reads_back : goal.returns-clause-reads_back
 returns-clause-reads_back c = (reads_strings c.self.inside.strings c.append_ended.new.grown c.args.s.now (2 ^ 28) c.append_ended.result c.requires c.append_ended.ensures.ok c.append_ended.ensures.unchanged c.self.invariant.0).back

@@ -1,14 +1,17 @@
-use Rattle.std.proofs.Common.{◌∙◌, ◌^◌, ℕ, List, lit<, subst}
+use Rattle.std.proofs.Common.{◌≡◌, ap, length, true, ◌∙◌, ◌^◌, ℕ, List, lit<, subst}
 use Rattle.std.specs.Prelude.{IfOk}
 use Rattle.cli_heaps.specs.Entries.{blob_at}
 use Rattle.cli_heaps.specs.Growth.{ReadsAt}
-use Rattle.cli_heaps.proofs.GrowthLaws.{reads_blobs}
+use Rattle.cli_heaps.proofs.GrowthLaws.{reads_blobs, users_after}
+use Rattle.cli_heaps.proofs.UserLaws.{user_content_odd}
+use Rattle.cli_heaps.specs.RootRules.{is_user_length}
 use Rattle.cli_heaps.proofs.builder.HeapBuilder.append_user.Goals as goal
 
 pub invariant_of-self : goal.invariant_of-self
 invariant_of-self c =
     let reads = reads_blobs c.self.inside.users c.append_counted.new.grown c.deref.result.now (2 ^ 24) c.append_counted.result (lit< tt) c.append_counted.ensures.ok c.append_counted.ensures.unchanged c.self.invariant.2 in
-    (c.self.invariant.0, c.self.invariant.1, reads.all)
+    let odd : is_user_length (length c.deref.result.now) ≡ true = ap (λ (l : List ℕ). is_user_length (length l)) (c.deref.ensures.value ∙ c.in_ok-content.ensures) ∙ user_content_odd c.args.units.now in
+    (c.self.invariant.0, c.self.invariant.1, reads.all, users_after c.self.inside.users c.append_counted.new.grown c.deref.result.now (2 ^ 24) c.append_counted.result (lit< tt) odd c.append_counted.ensures.ok c.append_counted.ensures.unchanged c.self.invariant.3)
 
 pub returns-clause-reads_back : goal.returns-clause-reads_back
 returns-clause-reads_back c =
