@@ -101,6 +101,7 @@ fn read(alloc: Global) -> Result<Tables, Fault> {
 }
 
 #[test]
+#[tactic(auto, unfolding(crate::specs::Schema::the_tables))]
 fn rows_are_found_by_a_cell(rt: HostRuntime) -> Result<(), Fault> {
     let tables = read(rt.alloc())?;
     assert_eq!(rt;
