@@ -6,4 +6,7 @@ pub mod CellLaws
 pub mod BrokenLaws
 pub mod ReadingLaws
 pub mod HeaderLaws
+pub mod FitLaws
 pub mod ShapeLaws
+pub mod GrowthLaws
+pub mod SetLaws

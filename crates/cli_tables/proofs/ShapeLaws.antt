@@ -17,12 +17,13 @@ use Rattle.cli_tables.specs.declared.schema.Column.{Column}
 use Rattle.cli_tables.specs.declared.schema.Column.TheVariants.{U8, U16, U32, StringIndex, GuidIndex, BlobIndex, Row, FirstRow, Coded}
 use Rattle.cli_tables.specs.declared.sizes.Sizes.{Sizes}
 use Rattle.cli_tables.specs.Schema.{the_tables, columns_of, tag_bits, coded_tables}
-use Rattle.cli_tables.specs.Stream.{sizes_of, row_width, width_of, index_width, has_few, cell}
+use Rattle.cli_tables.specs.Stream.{sizes_of, row_width, width_of, index_width, has_few, kind_of, cell}
 use Rattle.cli_tables.specs.Layout.{column_in, table_start, row_end, tables_in, whole_table}
-use Rattle.cli_tables.specs.Tables.{column_of, rows_of, cell_of, IsShaped, rows_in, cell_at, AreIn}
+use Rattle.cli_tables.specs.Tables.{column_of, rows_of, cell_of, limit_of, IsShaped, rows_in, cell_at, AreIn}
 use Rattle.cli_tables.specs.TableRules.{Broken, header_tests, HeaderBroken, RowsBroken}
 use Rattle.cli_tables.proofs.HeaderLaws.{unread_rows, header_fails}
-use Rattle.cli_tables.proofs.CellLaws.{length_column, cell_read}
+use Rattle.cli_tables.proofs.CellLaws.{column_at, length_column, cell_read}
+use Rattle.cli_tables.proofs.FitLaws.{AreBytes, strided_fits, some_limit}
 
 pub no_columns : (t : ℕ) → 45 ≤ t → columns_of t ≡ []
 unfolding the_tables
@@ -100,8 +101,22 @@ width_of_table bytes t =
       | inr past ↦ ap (λ (cs : List (List ℕ)). length cs) (table_past bytes t past) ∙ sym (ap (λ (ks : List Column). length ks) (no_columns t past))
     ]
 
-pub shaped : (meta bytes : List ℕ) (a : ℕ) → NoneBroken (Broken meta bytes a) → length bytes < 2 ^ 32 → IsShaped (tables_in bytes)
-shaped meta bytes a none short = record {
+-- each number fits its column, also past the end
+all_fit : (bytes : List ℕ) (t c k : ℕ) → AreBytes bytes → get_or (column_of (tables_in bytes) t c) k 0 < limit_of (kind_of t c)
+all_fit bytes t c k h =
+    elim (cases_lt c (length (columns_of t))) [
+      | inl lt ↦
+          let e : column_of (tables_in bytes) t c ≡ column_in bytes (sizes_of bytes) (table_start bytes t) t (rows_in bytes t) c =
+          ap (λ (cs : List (List ℕ)). get_or cs c []) (table_at bytes t (is_read t c lt)) ∙ column_at bytes (sizes_of bytes) (table_start bytes t) t (rows_in bytes t) c lt in
+          subst (λ (l : List ℕ). get_or l k 0 < limit_of (kind_of t c)) (sym e) (strided_fits bytes (sizes_of bytes) (table_start bytes t) t (rows_in bytes t) c k h)
+      | inr out ↦
+          let e : column_of (tables_in bytes) t c ≡ [] = get_or_past (get_or (tables_in bytes) t []) c [] (omega (arith, out, width_of_table bytes t)) in
+          subst (λ (l : List ℕ). get_or l k 0 < limit_of (kind_of t c)) (sym e) (some_limit (kind_of t c))
+    ]
+
+pub shaped : (meta bytes : List ℕ) (a : ℕ) → NoneBroken (Broken meta bytes a) → length bytes < 2 ^ 32 → AreBytes bytes → IsShaped (tables_in bytes)
+shaped meta bytes a none short h = record {
+  fits = λ t c k. all_fit bytes t c k h;
   columns = width_of_table bytes;
   rows = λ t c lt. rows_read bytes t c lt ∙ sym (rows_read bytes t 0 (omega (arith, lt)));
   few = λ t. elim (cases_lt 0 (length (columns_of t))) [
@@ -166,8 +181,8 @@ pub read_cells : (meta stream : List ℕ) (a : ℕ) (ts : List (List (List ℕ))
 read_cells meta stream a ts s none e =
     subst (λ (l : List (List (List ℕ))). AreIn (tables meta) l) (sym (e ∙ ap tables_in s)) (are_in (tables meta) (tables_offset meta) a (header_fails meta a none))
 
-pub read_shape : (meta stream : List ℕ) (a : ℕ) (ts : List (List (List ℕ))) → NoneBroken (Broken meta stream a) → length stream < 2 ^ 32 → ts ≡ tables_in stream → IsShaped ts
-read_shape meta stream a ts none short e = subst IsShaped (sym e) (shaped meta stream a none short)
+pub read_shape : (meta stream : List ℕ) (a : ℕ) (ts : List (List (List ℕ))) → NoneBroken (Broken meta stream a) → length stream < 2 ^ 32 → AreBytes stream → ts ≡ tables_in stream → IsShaped ts
+read_shape meta stream a ts none short h e = subst IsShaped (sym e) (shaped meta stream a none short h)
 
 pub sound_rows : (meta stream : List ℕ) (a : ℕ) → stream ≡ tables meta → NoneBroken (Broken meta stream a) → NoneBroken (RowsBroken meta a)
 sound_rows meta stream a s none = subst (λ (b : List ℕ). NoneBroken (Broken meta b a)) s none

@@ -1,5 +1,5 @@
 // How many rows the tables have, and how wide that makes their columns (ECMA-335, II.24.2.6).
-ghost use Rattle.std.specs.Prelude.{◌≡◌, ◌+◌, ◌*◌, ◌<◌, ◌≤◌, ◌^◌, not, length, slice_index, IsTrue, true, count_ones, if◌then◌else◌};
+ghost use Rattle.std.specs.Prelude.{◌≡◌, ◌+◌, ◌*◌, ◌<◌, ◌≤◌, ◌^◌, not, length, slice_index, IsTrue, true, count_ones, if◌then◌else◌, ℕ, get_or};
 ghost use Rattle.cil_base.specs.Numbers.{num};
 ghost use Rattle.std.specs.List.{list_all};
 ghost use Rattle.cli_tables.specs.Schema.{coded_tables, tag_bits, columns_of};
@@ -74,6 +74,7 @@ pub fn rows_start_of(stream: &[u8]) -> usize
     requires { 24 ≤ length stream.now }
     ensures start { result ≡ rows_start stream.now }
     ensures bits { rows_start stream.now ≡ 24 + 4 * count_ones (num stream.now 8 8) }
+    ensures bytes { (i : ℕ) → get_or stream.now i 0 < 2 ^ 8 }
 {
     let valid = valid_of(stream);
     24 + 4 * valid.count_ones() as usize

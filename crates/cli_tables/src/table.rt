@@ -1,9 +1,10 @@
 // One table, as its columns.
-ghost use Rattle.std.specs.Prelude.{◌≡◌, ◌+◌, ◌*◌, ◌<◌, ◌≤◌, ◌^◌, length, IsTrue, IfOk, ℕ, [], get_or};
+ghost use Rattle.std.specs.Prelude.{◌≡◌, ◌+◌, ◌*◌, ◌<◌, ◌≤◌, ◌^◌, length, IsTrue, IfOk, OnOk, OnErr, ℕ, [], get_or, slice_set};
 ghost use Rattle.cil_base.specs.Numbers.{num};
 ghost use Rattle.cli_tables.specs.Schema.{columns_of};
 ghost use Rattle.cli_tables.specs.Stream.{is_width, strided, row_width, width_of, offset_of};
 ghost use Rattle.cli_tables.specs.Layout.{table_in};
+ghost use Rattle.cli_tables.specs.Growth.{IsPushed, IsPopped};
 
 use crate::schema::columns;
 use crate::sizes::Sizes;
@@ -23,6 +24,31 @@ impl Model for Table {
     ghost Value = { List (List ℕ) };
 
     ghost view = { λ table. table.columns.items };
+}
+
+/// Takes the last number of each of the first columns away.
+fn pop_row(columns: &mut Vec<U32s>, count: usize)
+    requires { count ≤ length columns.old.items }
+    ensures { IsPopped columns.old.items count columns.new.items }
+{
+    for k in 0..count {
+        let _last = columns[k].pop();
+    }
+}
+
+/// Appends a number to each column; a refusal leaves them as they were.
+fn push_row(columns: &mut Vec<U32s>, cells: &[u32]) -> Result<(), AllocError>
+    requires { length cells.now ≡ length columns.old.items }
+    ensures ok { OnOk result (IsPushed columns.old.items cells.now (length cells.now) columns.new.items) }
+    ensures err { OnErr result (columns.new.items ≡ columns.old.items) }
+{
+    for k in 0..cells.len() {
+        if let Err(e) = columns[k].push(cells[k]) {
+            pop_row(columns, k);
+            return Err(e);
+        }
+    }
+    Ok(())
 }
 
 /// The number of one, two or four bytes at a place.
@@ -94,5 +120,23 @@ impl Table {
             None => &[],
             Some(cells) => cells.as_slice(),
         }
+    }
+
+    /// Appends a row; a refusal leaves the table as it was.
+    pub fn push(&mut self, cells: &[u32]) -> Result<(), AllocError>
+        requires { length cells.now ≡ length self.old }
+        ensures ok { OnOk result (IsPushed self.old cells.now (length cells.now) self.new) }
+        ensures err { OnErr result (self.new ≡ self.old) }
+    {
+        push_row(&mut self.columns, cells)
+    }
+
+    /// Writes one cell; rows count from 0 here.
+    pub fn set(&mut self, column: usize, row: usize, value: u32)
+        requires column { column < length self.old }
+        requires row { row < length (get_or self.old column []) }
+        ensures { self.new ≡ slice_set self.old column (slice_set (get_or self.old column []) row value) }
+    {
+        self.columns[column].set(row, value);
     }
 }

@@ -1,17 +1,19 @@
 // The tables of an assembly (ECMA-335, II.22).
-ghost use Rattle.std.specs.Prelude.{◌≡◌, ◌+◌, ◌-◌, ◌<◌, ◌≤◌, ◌^◌, ◌↔◌, length, map, IsSome, IfOk, OnOk};
+ghost use Rattle.std.specs.Prelude.{◌≡◌, ◌+◌, ◌-◌, ◌<◌, ◌≤◌, ◌^◌, ◌↔◌, length, map, IsSome, IfOk, OnOk, OnErr, true};
 ghost use Rattle.cil_base.specs.Refusals.{First, NoneBroken, InTurn, OnRefused};
 ghost use Rattle.cli_heaps.specs.Root.{tables};
 ghost use Rattle.cli_tables.specs.TableRules.{HeaderBroken, RowsBroken};
 ghost use Rattle.lane_cols.specs.Places.{places};
 ghost use Rattle.cli_tables.specs.Schema.{columns_of};
-ghost use Rattle.cli_tables.specs.Tables.{column_of, rows_of, cell_of, HasCell, IsShaped, AreIn};
+ghost use Rattle.cli_tables.specs.Tables.{column_of, rows_of, cell_of, HasCell, IsShaped, AreIn, IsRow, IsAppended, IsSet, fits_column, rows_with};
+ghost use Rattle.cli_tables.specs.Stream.{kind_of};
+ghost use Rattle.cli_tables.specs.Growth.{table_full};
 
 use crate::header::first_in_header;
 use crate::reading::read_tables;
 use crate::sizes::{read_sizes, rows_start_of};
 use crate::table::Table;
-use cil_base::{Fault, U32s};
+use cil_base::{Fault, Refusal, Rule, U32s};
 use cli_heaps::Heaps;
 use lane_cols::places_of;
 use std::alloc::{AllocError, Global};
@@ -86,5 +88,78 @@ impl Tables {
             return None;
         }
         self.column(table, column).get(row as usize - 1).copied()
+    }
+
+    /// The rows that hold a number in a column, rising.
+    pub fn rows_where(
+        &self,
+        alloc: Global,
+        table: u8,
+        column: u8,
+        value: u32,
+    ) -> Result<U32s, AllocError>
+        requires { column < length (columns_of table) }
+        ensures { IfOk result (λ rows. rows ≡ rows_with self.now table column value) }
+    {
+        let mut rows = Vec::new(alloc);
+        let places = places_of(alloc, self.column(table, column), value)?;
+        let found = places.as_slice();
+        for place in found {
+            rows.push(*place + 1)?;
+        }
+        Ok(U32s::from_vec(rows))
+    }
+
+    /// Appends a row and gives its number. L5, with the table and 2^24, exactly where it has
+    /// 2^24 - 1 rows or more; a refusal leaves the tables as they were.
+    pub fn append(&mut self, table: u8, cells: &[u32]) -> Result<u32, Fault>
+        requires { IsRow table cells.now }
+        ensures row { IfOk result (λ row. row ≡ rows_of self.old table + 1) }
+        ensures appended { OnOk result (IsAppended self.old table cells.now self.new) }
+        ensures room { OnOk result (rows_of self.old table < 2 ^ 24 - 1) }
+        ensures full { OnRefused result (λ r. (r ≡ table_full table) × (2 ^ 24 - 1 ≤ rows_of self.old table)) }
+        ensures err { OnErr result (self.new ≡ self.old) }
+    {
+        let rows = self.rows(table);
+        if rows >= MOST_ROWS {
+            return Err(Fault::Refused(full(table)));
+        }
+        match self.push(table, cells) {
+            Ok(()) => Ok(rows + 1),
+            Err(e) => Err(Fault::Memory(e)),
+        }
+    }
+
+    /// Writes one cell; all else stays.
+    pub fn set(&mut self, table: u8, row: u32, column: u8, value: u32)
+        requires cell { HasCell self.old table row column }
+        requires fits { fits_column (kind_of table column) value ≡ true }
+        ensures { IsSet self.old table row column value self.new }
+    {
+        self.tables[table as usize].set(column as usize, row as usize - 1, value);
+    }
+
+    fn push(&mut self, table: u8, cells: &[u32]) -> Result<(), AllocError>
+        requires row { IsRow table cells.now }
+        requires room { rows_of self.old table + 1 < 2 ^ 32 }
+        ensures ok { OnOk result (IsAppended self.old table cells.now self.new) }
+        ensures err { OnErr result (self.new ≡ self.old) }
+    {
+        self.tables[table as usize].push(cells)
+    }
+}
+
+/// The most rows that a written table may have.
+const MOST_ROWS: u32 = 0xFF_FFFF;
+
+fn full(table: u8) -> Refusal
+    ensures { result ≡ table_full table }
+{
+    Refusal {
+        rule: Rule::L5,
+        assembly: 0,
+        table,
+        row: 0,
+        at: MOST_ROWS + 1,
     }
 }

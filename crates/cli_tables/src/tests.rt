@@ -92,3 +92,47 @@ fn cells_are_read(rt: HostRuntime) -> Result<(), AllocError> {
     assert!(rt; false);
     Ok(())
 }
+
+fn read(alloc: Global) -> Result<Tables, Fault> {
+    match Heaps::read(&META, 0) {
+        Ok(heaps) => Tables::read(alloc, &heaps, 0),
+        Err(refusal) => Err(Fault::Refused(refusal)),
+    }
+}
+
+#[test]
+#[tactic(auto, unfolding(crate::specs::Schema::the_tables))]
+fn rows_are_found_by_a_cell(rt: HostRuntime) -> Result<(), Fault> {
+    let tables = read(rt.alloc())?;
+    assert_eq!(rt;
+        tables.rows_where(rt.alloc(), 2, 4, 1)?.as_slice(),
+        [1, 2].as_slice()
+    );
+    assert_eq!(rt;
+        tables.rows_where(rt.alloc(), 2, 1, 4)?.as_slice(),
+        [2].as_slice()
+    );
+    assert_eq!(rt; tables.rows_where(rt.alloc(), 6, 3, 9)?.len(), 0);
+    Ok(())
+}
+
+#[test]
+#[tactic(auto, unfolding(crate::specs::Schema::the_tables))]
+fn rows_are_appended_and_cells_written(rt: HostRuntime) -> Result<(), Fault> {
+    let mut tables = read(rt.alloc())?;
+    assert_eq!(rt; tables.append(0x1A, &[4])?, 1);
+    assert_eq!(rt; tables.append(0x1A, &[1])?, 2);
+    assert_eq!(rt; (tables.rows(0x1A), tables.rows(2)), (2, 2));
+    assert_eq!(rt;
+        (tables.cell(0x1A, 1, 0), tables.cell(0x1A, 2, 0)),
+        (Some(4), Some(1))
+    );
+    if tables.cell(2, 1, 0).is_some() {
+        tables.set(2, 1, 0, 7);
+    }
+    assert_eq!(rt;
+        (tables.cell(2, 1, 0), tables.cell(2, 2, 0)),
+        (Some(7), Some(1))
+    );
+    Ok(())
+}

@@ -12,4 +12,5 @@ returns c =
     record {
       start = ap (λ (v : ℕ). 24 + 4 * count_ones v) c.valid_of-valid.ensures ∙ sym e;
       bits = e;
+      bytes = λ i. omega (arith, c.type_inv.stream i);
     }

@@ -16,13 +16,13 @@ no_header : (c : goal.In-Ok) → NoneBroken (HeaderBroken c.args.heaps.now.bytes
 no_header c = sound_header c.args.heaps.now.bytes c.tables-stream.result.now c.tables_offset.result c.args.assembly c.tables-stream.ensures.bytes c.tables_offset.ensures.offset (sym c.first_in_header.ensures ∙ c.in_default.is)
 
 pub invariant_of-result : goal.invariant_of-result
-invariant_of-result c = read_shape c.args.heaps.now.bytes c.tables-stream.result.now c.args.assembly c.in-Ok.tables.items c.in-Ok.ensures.clean (short c) c.in-Ok.ensures.ok
+invariant_of-result c = read_shape c.args.heaps.now.bytes c.tables-stream.result.now c.args.assembly c.in-Ok.tables.items c.in-Ok.ensures.clean (short c) c.rows_start_of-whole.ensures.bytes c.in-Ok.ensures.ok
 
 pub returns-in-Ok-clause-cells : goal.returns-in-Ok-clause-cells
 returns-in-Ok-clause-cells c = read_cells c.args.heaps.now.bytes c.tables-stream.result.now c.args.assembly c.in-Ok.tables.items c.tables-stream.ensures.bytes (no_header c) c.in-Ok.ensures.ok
 
 pub returns-in-Ok-clause-shaped : goal.returns-in-Ok-clause-shaped
-returns-in-Ok-clause-shaped c = read_shape c.args.heaps.now.bytes c.tables-stream.result.now c.args.assembly c.in-Ok.tables.items c.in-Ok.ensures.clean (short c) c.in-Ok.ensures.ok
+returns-in-Ok-clause-shaped c = read_shape c.args.heaps.now.bytes c.tables-stream.result.now c.args.assembly c.in-Ok.tables.items c.in-Ok.ensures.clean (short c) c.rows_start_of-whole.ensures.bytes c.in-Ok.ensures.ok
 
 pub returns-in-Ok-clause-header : goal.returns-in-Ok-clause-header
 returns-in-Ok-clause-header c = no_header c
