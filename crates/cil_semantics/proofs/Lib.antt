@@ -1,2 +1,4 @@
 pub mod LiftLaws
 pub mod RowLaws
+pub mod MoreRowLaws
+pub mod PartLaws

@@ -19,6 +19,9 @@ pub mod Calls
 pub mod Checks
 pub mod Machine
 pub mod Simulation
+pub mod Same
+pub mod FourParts
 pub mod Everything
 pub mod Samples
 pub mod Rows
+pub mod MoreRows
