@@ -2,3 +2,4 @@ pub mod LiftLaws
 pub mod RowLaws
 pub mod MoreRowLaws
 pub mod PartLaws
+pub mod SplicedRowLaws

@@ -118,6 +118,7 @@ module _ (a b : State → Next) (E : World → World → Type 0) (R : State → 
     where
       alike : (o1 o2 : Outcome) (w1 w2 : World) → runs a n m ≡ Ends o1 w1 → Ends o2 w2 ≡ Ends o w' → o1 ≡ o2 → E w1 w2 → EndsAlike (λ w. E w w') (runs a n m) o
       alike o1 o2 w1 w2 p z g h = (w1, p ∙ ap (λ v. Ends v w1) (g ∙ ap end_outcome z), subst (E w1) (ap end_world z) h)
+
       inner : (x y : Next) → runs a n m ≡ x → runs b t.steps m0 ≡ y → (IsGoing x → n ≤ t.steps) → Match E R x y → EndsAlike (λ w. E w w') (runs a n m) o
       inner (Goes m1) (Ends o2 w2) p q l h = absurd h
       inner (Ends o1 w1) (Goes m1') p q l h = absurd h

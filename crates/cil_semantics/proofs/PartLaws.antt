@@ -23,7 +23,7 @@ if_false b x y e = ap (λ c. if c then x else y) e
 module _ (p : Program) (k : Contracts) (plan : Plan) (f : Frame) (fs : List Frame) where
   -- a group begins with its first piece that takes part
   begun : (g : Group) (h : Frame) (x : ℕ × Piece) (l : Local) (w : World) (over : Next) → runs_at plan g w.depth ≡ true → next_piece p plan g 0 h fs w ≡ Some x
-    → begin_group p plan g h l fs w over ≡ at_piece p g x h l fs (raised w)
+      → begin_group p plan g h l fs w over ≡ at_piece p g x h l fs (raised w)
   begun g h x l w over r e =
       if_true (runs_at plan g w.depth) (begin_piece p g (next_piece p plan g 0 h fs w) h l fs (raised w) over) over r
       ∙ ap (λ o. begin_piece p g o h l fs (raised w) over) e

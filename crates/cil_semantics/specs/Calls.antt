@@ -13,7 +13,7 @@ use Rattle.cil_model.specs.declared.program.Kind.{Kind}
 use Rattle.cil_model.specs.declared.program.Kind.TheVariants.{Delegate}
 use Rattle.cil_semantics.specs.Words.{any, maybe}
 use Rattle.cil_semantics.specs.Types.{same_ty, same_tys}
-use Rattle.cil_semantics.specs.Core.{Name, class, object_ty, string_ty, core_classes, contract_name}
+use Rattle.cil_semantics.specs.Core.{Name, class, object_ty, string_ty, core_classes, contract_name, helper_name, event_name}
 use Rattle.cil_semantics.specs.Lookups.{type_of, method_of, args_of, in_set, is_sub, chain}
 use Rattle.cil_semantics.specs.Dispatch.{Seen, body_for}
 use Rattle.cil_semantics.specs.Numbers.{cut}
@@ -22,7 +22,7 @@ use Rattle.cil_semantics.specs.State.{Object, World, Frame, Next, Back, Pushes, 
 use Rattle.cil_semantics.specs.Acts.{Call, ty_name, dynamic_type, is_null, item_type, flag}
 use Rattle.cil_semantics.specs.Unwind.{raise, unwind}
 use Rattle.cil_semantics.specs.Frames.{stuck, if_there, read, enter, enter_struct, enter_delegate, next_try}
-use Rattle.cil_semantics.specs.Outside.{Answer, Answers, Throws_out, Unfit, ask, ask_new, member_of, is_outside}
+use Rattle.cil_semantics.specs.Outside.{Member, Answer, Answers, Throws_out, Unfit, ask, ask_new, member_of, is_outside}
 use Rattle.cil_semantics.specs.Returns.{push_below, try_next}
 
 -- ---- core members, by their names
@@ -132,8 +132,13 @@ on_answer p k (Answers v fs w) before = push_below p k v fs w
 on_answer p k (Throws_out x fs w) before = unwind p k false fs w x
 on_answer p k Unfit before = stuck before
 
+-- By default RaiseContractFailedEvent replies its third argument.
+abbrev pub with_default : Program → Ty → ℕ → List Value → Member → Member
+with_default p owner m values x =
+    if is_named (ty_name p owner) helper_name && is_named (method_of p m).name event_name then record x { default = slice_get values 2 } else x
+
 abbrev pub outside_call : Program → Contracts → Ty → ℕ → List Ty → List Value → List Frame → World → Next
-outside_call p k owner m args values fs w = on_answer p k (ask p (member_of p owner m args) values fs w) w
+outside_call p k owner m args values fs w = on_answer p k (ask p (with_default p owner m values (member_of p owner m args)) values fs w) w
 
 -- ---- a call of a member that is settled
 

@@ -33,15 +33,15 @@ pub record FirstPart (p : Program) (k : Contracts) (plan : Plan) (f : Frame) (fs
 pub record EntryPart (p : Program) (k : Contracts) (plan : Plan) (f : Frame) (fs : List Frame) : Type 0 where
   pub order : pieces plan group.Entry ≡ filter is_pre plan.clauses ++ each_captured plan.clauses
   pub begins : (x : ℕ × Piece) (l : Local) (hs : List Handling) (w : World) → runs_at plan group.Entry w.depth ≡ true → next_piece p plan group.Entry 0 f fs w ≡ Some x
-    → arrive_in p (Some plan) f (Lead plan.effective.lead_end) l hs fs w ≡ at_piece p group.Entry x f l fs (raised w)
+      → arrive_in p (Some plan) f (Lead plan.effective.lead_end) l hs fs w ≡ at_piece p group.Entry x f l fs (raised w)
   pub passed_over : (l : Local) (hs : List Handling) (w : World) → runs_at plan group.Entry w.depth ≡ false
-    → arrive_in p (Some plan) f (Lead plan.effective.lead_end) l hs fs w ≡ at_rest p plan f l fs w
+      → arrive_in p (Some plan) f (Lead plan.effective.lead_end) l hs fs w ≡ at_rest p plan f l fs w
   pub goes_on : (i : ℕ) (x : ℕ × Piece) (l : Local) (w : World) → next_piece p plan group.Entry (i + 1) f fs w ≡ Some x
-    → piece_over p k plan group.Entry i f l fs w ≡ at_piece p group.Entry x f l fs w
+      → piece_over p k plan group.Entry i f l fs w ≡ at_piece p group.Entry x f l fs w
   pub ends : (i : ℕ) (l : Local) (w : World) → next_piece p plan group.Entry (i + 1) f fs w ≡ None
-    → piece_over p k plan group.Entry i f l fs w ≡ at_rest p plan f l fs (lowered w)
+      → piece_over p k plan group.Entry i f l fs w ≡ at_rest p plan f l fs (lowered w)
   pub drops_exceptions : (i q x : ℕ) (w : World) (below : Below) → drops (piece_at (Some plan) group.Entry i) ≡ true
-    → gives_up p (Some plan) f (In group.Entry i q) fs w x below ≡ piece_over p k plan group.Entry i f f.local fs w
+      → gives_up p (Some plan) f (In group.Entry i q) fs w x below ≡ piece_over p k plan group.Entry i f f.local fs w
 
 -- An exception of a group is no other group's: the depth is as before, and it goes on below at once.
 abbrev pub GroupsThrow : Program → Plan → Frame → List Frame → Type 0
@@ -53,28 +53,28 @@ GroupsThrow p plan f fs =
 pub record ReturnPart (p : Program) (k : Contracts) (plan : Plan) (f : Frame) (fs : List Frame) : Type 0 where
   pub order : pieces plan group.Exit ≡ filter is_ensures plan.clauses
   pub begins : (q : ℕ) (x : ℕ × Piece) (l : Local) (w : World) → runs_at plan group.Exit w.depth ≡ true → next_piece p plan group.Exit 0 f fs w ≡ Some x
-    → return_from p k (Some plan) (Rest q) f l fs w ≡ at_piece p group.Exit x f l fs (raised w)
+      → return_from p k (Some plan) (Rest q) f l fs w ≡ at_piece p group.Exit x f l fs (raised w)
   pub passed_over : (q : ℕ) (l : Local) (w : World) → runs_at plan group.Exit w.depth ≡ false → return_from p k (Some plan) (Rest q) f l fs w ≡ begin_invariants p k plan f l fs w
   pub goes_on : (i : ℕ) (x : ℕ × Piece) (l : Local) (w : World) → next_piece p plan group.Exit (i + 1) f fs w ≡ Some x
-    → piece_over p k plan group.Exit i f l fs w ≡ at_piece p group.Exit x f l fs w
+      → piece_over p k plan group.Exit i f l fs w ≡ at_piece p group.Exit x f l fs w
   pub ends : (i : ℕ) (l : Local) (w : World) → next_piece p plan group.Exit (i + 1) f fs w ≡ None
-    → piece_over p k plan group.Exit i f l fs w ≡ begin_invariants p k plan f l fs (lowered w)
+      → piece_over p k plan group.Exit i f l fs w ≡ begin_invariants p k plan f l fs (lowered w)
   pub invariants : pieces plan group.Invariant ≡ plan.invariants
   pub begins_invariants : (x : ℕ × Piece) (l : Local) (w : World) → w.depth ≡ 0 → next_piece p plan group.Invariant 0 f fs w ≡ Some x
-    → begin_invariants p k plan f l fs w ≡ at_piece p group.Invariant x f l fs (raised w)
+      → begin_invariants p k plan f l fs w ≡ at_piece p group.Invariant x f l fs (raised w)
   pub passes_over_invariants : (l : Local) (w : World) → w.depth ≢ 0 → begin_invariants p k plan f l fs w ≡ return_to p k f l fs w
   pub ends_invariants : (i : ℕ) (l : Local) (w : World) → next_piece p plan group.Invariant (i + 1) f fs w ≡ None
-    → piece_over p k plan group.Invariant i f l fs w ≡ return_to p k f l fs (lowered w)
+      → piece_over p k plan group.Invariant i f l fs w ≡ return_to p k f l fs (lowered w)
 
 -- Parts 3 and 4, where the rest throws: the clauses on exceptions whose type fits, in order, then the same exception goes on.
 pub record ThrowPart (p : Program) (k : Contracts) (plan : Plan) (f : Frame) (fs : List Frame) : Type 0 where
   pub order : pieces plan group.Throw ≡ filter is_throws plan.clauses
   pub begins : (q x : ℕ) (y : ℕ × Piece) (w : World) (below : Below) → runs_at plan group.Throw w.depth ≡ true → next_piece p plan group.Throw 0 (record f { thrown = Some x }) fs w ≡ Some y
-    → gives_up p (Some plan) f (Rest q) fs w x below ≡ at_piece p group.Throw y (record f { thrown = Some x }) f.local fs (raised w)
+      → gives_up p (Some plan) f (Rest q) fs w x below ≡ at_piece p group.Throw y (record f { thrown = Some x }) f.local fs (raised w)
   pub passed_over : (q x : ℕ) (w : World) (below : Below) → runs_at plan group.Throw w.depth ≡ false → gives_up p (Some plan) f (Rest q) fs w x below ≡ goes_below f w x below
   pub none_fits : (q x : ℕ) (w : World) (below : Below) → next_piece p plan group.Throw 0 (record f { thrown = Some x }) fs w ≡ None → gives_up p (Some plan) f (Rest q) fs w x below ≡ goes_below f w x below
   pub ends : (i x : ℕ) (l : Local) (w : World) → f.thrown ≡ Some x → next_piece p plan group.Throw (i + 1) f fs w ≡ None
-    → piece_over p k plan group.Throw i f l fs w ≡ goes_below f (lowered w) x (λ skip v y. unwind p k skip fs v y)
+      → piece_over p k plan group.Throw i f l fs w ≡ goes_below f (lowered w) x (λ skip v y. unwind p k skip fs v y)
 
 -- A call goes by these parts.
 pub record GoesByParts (p : Program) (k : Contracts) (plan : Plan) (f : Frame) (fs : List Frame) : Type 0 where

@@ -24,8 +24,7 @@ use Rattle.cil_model.specs.declared.program.TokenRow.{TokenRow}
 use Rattle.cil_model.specs.declared.run.Outcome.TheVariants as outcome
 use Rattle.cil_model.specs.declared.run.ReplyResult.TheVariants as reply
 use Rattle.cil_model.specs.declared.run.TraceItem.{TraceItem}
-use Rattle.cil_semantics.specs.Core.{Name, class, string_ty}
-use Rattle.cil_semantics.specs.Checks.{helper_name}
+use Rattle.cil_semantics.specs.Core.{Name, class, string_ty, helper_name}
 use Rattle.cil_semantics.specs.Samples.{instr, bare, ldarg, starg, ldloc, stloc, int, jump, call, newobj, ret, body, int_ty, bool_ty, void_ty, method, class_with, clause, no_effective, contracts, replies, null_reply, failed, sample, requires, ensures_call, on_throw, invariant, assert, result, old_value, log_get, log_check, log_find, new_argument_exception, new_null_exception, new_operation_exception, call_own, type_token, type_ref, method_token, checked, i4, returns, contract_exception_name}
 use Rattle.cil_semantics.specs.Rows.{with_contract, find, inc, inc_contract, inc_label, got}
 

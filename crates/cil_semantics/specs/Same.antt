@@ -11,13 +11,13 @@ use Rattle.cil_model.specs.declared.program.MethodDesc.{MethodDesc}
 use Rattle.cil_model.specs.declared.run.Reply.{Reply}
 use Rattle.cil_model.specs.declared.run.Outcome.{Outcome}
 use Rattle.cil_semantics.specs.Words.{maybe}
-use Rattle.cil_semantics.specs.Core.{Name, string_ty, contract_name}
+use Rattle.cil_semantics.specs.Core.{Name, string_ty, contract_name, helper_name}
 use Rattle.cil_semantics.specs.Lookups.{type_of, field_of, method_of, in_set}
 use Rattle.cil_semantics.specs.State.{World, Statics, Next, Ends}
 use Rattle.cil_semantics.specs.Contracted.{effective_of}
 use Rattle.cil_semantics.specs.Frames.{param_types, owner_type}
 use Rattle.cil_semantics.specs.Outside.{all_fit, fits}
-use Rattle.cil_semantics.specs.Checks.{Numbers, helper_name, kind_ty, exception_ty}
+use Rattle.cil_semantics.specs.Checks.{Numbers, kind_ty, exception_ty}
 use Rattle.cil_semantics.specs.Machine.{run, plain_run, empty_world}
 use Rattle.cil_semantics.specs.Simulation.{IsPrefix, trace_of}
 

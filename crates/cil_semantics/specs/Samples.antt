@@ -28,9 +28,8 @@ use Rattle.cil_model.specs.declared.run.Reply.{Reply}
 use Rattle.cil_model.specs.declared.run.ReplyResult.{ReplyResult}
 use Rattle.cil_model.specs.declared.run.ReplyResult.TheVariants as reply
 use Rattle.cil_model.specs.declared.run.TraceItem.{TraceItem}
-use Rattle.cil_semantics.specs.Core.{Name, class, string_ty, object_ty, contract_name, failure_kind}
+use Rattle.cil_semantics.specs.Core.{Name, class, string_ty, object_ty, contract_name, failure_kind, helper_name}
 use Rattle.cil_semantics.specs.State.{Item, Next, Goes, Ends}
-use Rattle.cil_semantics.specs.Checks.{helper_name}
 use Rattle.cil_semantics.specs.Machine.{run, numbers_past}
 use Rattle.std.specs.Prelude.{codes}
 
