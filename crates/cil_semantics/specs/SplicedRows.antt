@@ -1,5 +1,5 @@
 -- Bodies with their checks spliced in by hand: the plain run shows what the run with contracts does.
-use Rattle.std.specs.Prelude.{◌≡◌, ℕ, List, [], ◌∷◌, ◌++◌, length, Option, Some, None, codes}
+use Rattle.std.specs.Prelude.{◌≡◌, ℕ, List, [], ◌∷◌, ◌++◌, length, Option, Some, None, codes, false}
 use Rattle.cil_base.specs.declared.token.Token.{Token}
 use Rattle.cil_model.specs.declared.ty.Ty.{Ty, Known}
 use Rattle.cil_model.specs.declared.value.Value.{Value}
