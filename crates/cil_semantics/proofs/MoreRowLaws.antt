@@ -1,7 +1,7 @@
 -- Runs of further small programs, computed.
 use Rattle.std.proofs.Common.{refl}
 use Rattle.cil_semantics.specs.Everything.{everything}
-use Rattle.cil_semantics.specs.MoreRows.{OutsideReplyDoesntFit, FailureIsTriggered, CaughtInTheRest, FinallyRunsOnTheWayOut, FinallyRunsAfterLeave, InitializerFailsForGood, EntryRunsTheInitializer, InvariantChecksANestedCall}
+use Rattle.cil_semantics.specs.MoreRows.{OutsideReplyDoesntFit, FailureIsTriggered, CaughtInTheRest, FinallyRunsOnTheWayOut, FinallyRunsAfterLeave, InitializerFailsForGood, EntryRunsTheInitializer, InvariantChecksANestedCall, ValueAtReturnIsRead, RequiresOfMakesItsOwnException}
 
 pub outside_reply_doesnt_fit : OutsideReplyDoesntFit
 unfolding everything
@@ -34,3 +34,11 @@ entry_runs_the_initializer = refl
 pub invariant_checks_a_nested_call : InvariantChecksANestedCall
 unfolding everything
 invariant_checks_a_nested_call = refl
+
+pub value_at_return_is_read : ValueAtReturnIsRead
+unfolding everything
+value_at_return_is_read = refl
+
+pub requires_of_makes_its_own_exception : RequiresOfMakesItsOwnException
+unfolding everything
+requires_of_makes_its_own_exception = refl

@@ -9,7 +9,7 @@ use Rattle.cil_model.specs.declared.body.Body.{Body}
 use Rattle.cil_model.specs.declared.body.Region.{Region}
 use Rattle.cil_model.specs.declared.body.RegionKind.{RegionKind}
 use Rattle.cil_model.specs.declared.body.RegionKind.TheVariants as region
-use Rattle.cil_model.specs.declared.body.Operand.TheVariants.{Int, Tok}
+use Rattle.cil_model.specs.declared.body.Operand.TheVariants.{Int, Index, Tok}
 use Rattle.cil_model.specs.declared.contract.Clause.{Clause}
 use Rattle.cil_model.specs.declared.contract.Contracts.{Contracts}
 use Rattle.cil_model.specs.declared.contract.Effective.{Effective}
@@ -25,7 +25,7 @@ use Rattle.cil_model.specs.declared.run.Outcome.TheVariants as outcome
 use Rattle.cil_model.specs.declared.run.ReplyResult.TheVariants as reply
 use Rattle.cil_model.specs.declared.run.TraceItem.{TraceItem}
 use Rattle.cil_semantics.specs.Core.{Name, class, string_ty, helper_name}
-use Rattle.cil_semantics.specs.Samples.{instr, bare, ldarg, starg, ldloc, stloc, int, jump, call, newobj, ret, body, int_ty, bool_ty, void_ty, method, class_with, clause, no_effective, contracts, replies, null_reply, failed, sample, requires, ensures_call, on_throw, invariant, assert, result, old_value, log_get, log_check, log_find, new_argument_exception, new_null_exception, new_operation_exception, call_own, type_token, type_ref, method_token, checked, i4, returns, contract_exception_name}
+use Rattle.cil_semantics.specs.Samples.{instr, bare, ldarg, starg, ldloc, stloc, int, jump, call, newobj, ret, body, int_ty, bool_ty, void_ty, method, class_with, clause, no_effective, contracts, replies, null_reply, failed, sample, requires, ensures_call, on_throw, invariant, assert, result, old_value, log_get, log_check, log_find, new_argument_exception, new_null_exception, new_operation_exception, call_own, value_at_return, type_token, type_ref, method_token, checked, i4, returns, contract_exception_name}
 use Rattle.cil_semantics.specs.Rows.{with_contract, find, inc, inc_contract, inc_label, got}
 
 -- ---- a reply of another kind than the result
@@ -149,3 +149,46 @@ abbrev pub InvariantChecksANestedCall : Type 0
 InvariantChecksANestedCall =
     checked nested nested_contracts 2 [] (null_reply ∷ null_reply ∷ null_reply ∷ []) 60
     ≡ Some (outcome.Return None, failed 0 (codes "C::P/requires/0") (reply.Given Null) ∷ [])
+
+-- ---- Va(int32& r): Ensures(ValueAtReturn(r) == 3); stores 2 in r. Its caller passes a local's address.
+
+abbrev pub va : Program
+va =
+    let q =
+    sample
+    (method 0 (codes "Va") (ty.ByRef int_ty ∷ []) void_ty (body (ldarg 0 ∷ value_at_return ∷ int 3 ∷ bare 0xFE01 ∷ ensures_call ∷ ldarg 0 ∷ int 2 ∷ bare 0x54 ∷ ret ∷ []) [] None)
+    ∷ method 0 (codes "Go") [] void_ty (body (instr 0xFE0D (Index 0) ∷ call_own 0 ∷ ret ∷ []) [] (Some (record { table = 0x11; row = 1 }))) ∷ [])
+    in
+    record q { tokens = record { assembly = 0; token = record { table = 0x11; row = 1 }; meaning = OfLocals (int_ty ∷ []) } ∷ q.tokens }
+
+abbrev pub va_contracts : Contracts
+va_contracts =
+    contracts Full 4
+    (record no_effective { rest_from = 5; clauses = clause kind.Ensures (codes "T::Va/ensures/0") (ldarg 0 ∷ value_at_return ∷ int 3 ∷ bare 0xFE01 ∷ ensures_call ∷ []) ∷ [] } ∷ no_effective ∷ [])
+
+abbrev pub ValueAtReturnIsRead : Type 0
+ValueAtReturnIsRead =
+    checked va va_contracts 1 [] [] 60
+    ≡ Some (outcome.Thrown 1 contract_exception_name, failed 1 (codes "T::Va/ensures/0") (reply.Given (Text (codes "T::Va/ensures/0"))) ∷ [])
+
+-- ---- Requires<E> with an E of the set, whose constructor takes the text
+
+abbrev pub own_exception : Program
+own_exception =
+    let q =
+    sample
+    (method 0 (codes "Inc") (int_ty ∷ []) int_ty (body (ldarg 0 ∷ int 0 ∷ bare 0xFE02 ∷ requires ∷ ldarg 0 ∷ int 1 ∷ bare 0x58 ∷ ret ∷ []) [] None)
+    ∷ record (instance (method 2 (codes ".ctor") (string_ty ∷ []) void_ty (body (ldarg 0 ∷ call 14 ∷ ret ∷ []) [] None))) { sig = 1 } ∷ [])
+    in
+    record q {
+      types = q.types ++ record (class_with (codes "T/E") (1 ∷ [])) { base = Some (class (codes "System.Exception")) } ∷ [];
+      tokens = record { assembly = 0; token = type_token 9; meaning = OfType (Known 2) } ∷ q.tokens;
+    }
+
+abbrev pub own_exception_contract : Effective
+own_exception_contract = record inc_contract { clauses = record (clause kind.RequiresOf inc_label (ldarg 0 ∷ int 0 ∷ bare 0xFE02 ∷ requires ∷ [])) { exception = Some (type_ref 9) } ∷ [] }
+
+abbrev pub RequiresOfMakesItsOwnException : Type 0
+RequiresOfMakesItsOwnException =
+    checked own_exception (contracts Full 4 (own_exception_contract ∷ no_effective ∷ [])) 0 (i4 0 ∷ []) [] 40
+    ≡ Some (outcome.Thrown 1 (codes "T/E"), failed 0 inc_label (reply.Given (Text inc_label)) ∷ [])

@@ -9,7 +9,7 @@ mod spliced_rows;
 
 pub use more_rows::{
     failure_without_throwing, handlers_of_the_rest, initializers, invariant_under_a_nested_call,
-    reply_that_doesnt_fit,
+    reply_that_doesnt_fit, requires_of_an_own_exception, value_at_return,
 };
 pub use parts::call_goes_by_parts;
 pub use rows::{

@@ -1,6 +1,6 @@
 // Runs of further small programs, computed. The programs stand in `specs/MoreRows.antt`.
 
-ghost use Rattle.cil_semantics.specs.MoreRows.{OutsideReplyDoesntFit, FailureIsTriggered, CaughtInTheRest, FinallyRunsOnTheWayOut, FinallyRunsAfterLeave, InitializerFailsForGood, EntryRunsTheInitializer, InvariantChecksANestedCall};
+ghost use Rattle.cil_semantics.specs.MoreRows.{OutsideReplyDoesntFit, FailureIsTriggered, CaughtInTheRest, FinallyRunsOnTheWayOut, FinallyRunsAfterLeave, InitializerFailsForGood, EntryRunsTheInitializer, InvariantChecksANestedCall, ValueAtReturnIsRead, RequiresOfMakesItsOwnException};
 
 /// A reply of another kind than the member's result.
 #[tactic(auto, using(crate::proofs::MoreRowLaws::outside_reply_doesnt_fit))]
@@ -33,4 +33,16 @@ pub fn initializers()
 #[tactic(auto, using(crate::proofs::MoreRowLaws::invariant_checks_a_nested_call))]
 pub fn invariant_under_a_nested_call()
     ensures { InvariantChecksANestedCall }
+{}
+
+/// A by-reference argument is read at return.
+#[tactic(auto, using(crate::proofs::MoreRowLaws::value_at_return_is_read))]
+pub fn value_at_return()
+    ensures { ValueAtReturnIsRead }
+{}
+
+/// Requires with the type of an exception of the set.
+#[tactic(auto, using(crate::proofs::MoreRowLaws::requires_of_makes_its_own_exception))]
+pub fn requires_of_an_own_exception()
+    ensures { RequiresOfMakesItsOwnException }
 {}
