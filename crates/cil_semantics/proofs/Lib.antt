@@ -1,2 +1,5 @@
 pub mod LiftLaws
 pub mod RowLaws
+pub mod MoreRowLaws
+pub mod PartLaws
+pub mod SplicedRowLaws

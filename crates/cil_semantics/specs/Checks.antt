@@ -16,7 +16,7 @@ use Rattle.cil_model.specs.declared.contract.ClauseKind.TheVariants as kind
 use Rattle.cil_model.specs.Texts.{text_units}
 use Rattle.cil_semantics.specs.Words.{maybe, or_else}
 use Rattle.cil_semantics.specs.Types.{same_tys}
-use Rattle.cil_semantics.specs.Core.{Name, class, string_ty, failure_kind, contract_name}
+use Rattle.cil_semantics.specs.Core.{Name, class, string_ty, failure_kind, contract_name, helper_name, event_name}
 use Rattle.cil_semantics.specs.Lookups.{method_of, in_set}
 use Rattle.cil_semantics.specs.Dispatch.{methods_of, is_public}
 use Rattle.cil_semantics.specs.Places.{Cut, Reference, stored, set_cell}
@@ -130,9 +130,6 @@ kind_number kind.Invariant = 3
 kind_number kind.Assert = 4
 kind_number kind.Assume = 5
 
-abbrev pub helper_name : Name
-helper_name = codes "System.Runtime.CompilerServices.ContractHelper"
-
 abbrev pub kind_ty : Ty
 kind_ty = Outside failure_kind true
 
@@ -142,7 +139,7 @@ exception_ty = class (codes "System.Exception")
 -- the member that a failure is reported to; by default it replies the label
 abbrev pub event_member : Numbers → Value → Member
 event_member g label =
-    record { number = g.event; name = helper_name ++ codes "::RaiseContractFailedEvent"; params = kind_ty ∷ string_ty ∷ string_ty ∷ exception_ty ∷ []; result = string_ty; default = Some label }
+    record { number = g.event; name = helper_name ++ (codes "::" ++ event_name); params = kind_ty ∷ string_ty ∷ string_ty ∷ exception_ty ∷ []; result = string_ty; default = Some label }
 
 abbrev pub trigger_member : Numbers → Member
 trigger_member g =

@@ -2,6 +2,7 @@
 use Rattle.std.specs.Prelude.{ℕ, zero, suc, ◌+◌, Bool, true, false, List, [], ◌∷◌, ◌++◌, length, map, Option, Some, None, pos, ℤ}
 use Rattle.cil_base.specs.declared.token.Token.{Token}
 use Rattle.cil_model.specs.declared.ty.Ty.{Ty, Prim, Known, Outside}
+use Rattle.cil_model.specs.declared.ty.Ty.TheVariants as ty
 use Rattle.cil_model.specs.declared.value.Value.{Value, I4, Null, Text}
 use Rattle.cil_model.specs.declared.body.Body.{Body}
 use Rattle.cil_model.specs.declared.body.Instr.{Instr}
@@ -28,9 +29,8 @@ use Rattle.cil_model.specs.declared.run.Reply.{Reply}
 use Rattle.cil_model.specs.declared.run.ReplyResult.{ReplyResult}
 use Rattle.cil_model.specs.declared.run.ReplyResult.TheVariants as reply
 use Rattle.cil_model.specs.declared.run.TraceItem.{TraceItem}
-use Rattle.cil_semantics.specs.Core.{Name, class, string_ty, object_ty, contract_name, failure_kind}
+use Rattle.cil_semantics.specs.Core.{Name, class, string_ty, object_ty, contract_name, failure_kind, helper_name}
 use Rattle.cil_semantics.specs.State.{Item, Next, Goes, Ends}
-use Rattle.cil_semantics.specs.Checks.{helper_name}
 use Rattle.cil_semantics.specs.Machine.{run, numbers_past}
 use Rattle.std.specs.Prelude.{codes}
 
@@ -185,6 +185,7 @@ members =
     ∷ constructor operation_exception
     ∷ constructor object_ty
     ∷ static_member (class helper_name) (codes "RaiseContractFailedEvent") (Outside failure_kind true ∷ string_ty ∷ string_ty ∷ class (codes "System.Exception") ∷ []) string_ty
+    ∷ static_member contract_ty (codes "ValueAtReturn") (ty.ByRef int_ty ∷ []) int_ty
     ∷ []
 
 -- what the samples call them by, as rows of MemberRef
@@ -229,6 +230,9 @@ new_operation_exception = newobj 13
 
 abbrev pub report : Instr
 report = call 15
+
+abbrev pub value_at_return : Instr
+value_at_return = call 16
 
 abbrev pub descs : List Member → List MethodDesc
 descs [] = []

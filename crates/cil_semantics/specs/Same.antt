@@ -1,0 +1,122 @@
+-- Same behaviour: the plain run of a program does what the run of another with its contracts does.
+use Rattle.std.specs.Prelude.{◌≡◌, ℕ, zero, suc, ◌+◌, ◌*◌, ◌<◌, ◌≤◌, max, Bool, true, false, ◌&&◌, nat_lt, if◌then◌else◌, List, [], ◌∷◌, ◌++◌, length, filter, slice_get, Option, Some, None, codes, IsTrue, IsFalse, IsSome}
+use Rattle.cil_model.specs.declared.ty.Ty.{Ty, out-Ty, Prim, Known, Outside}
+use Rattle.cil_model.specs.declared.value.Value.{Value}
+use Rattle.cil_model.specs.declared.contract.Contracts.{Contracts}
+use Rattle.cil_model.specs.declared.contract.Effective.{Effective}
+use Rattle.cil_model.specs.declared.program.Program.{Program}
+use Rattle.cil_model.specs.declared.program.TypeDesc.{TypeDesc}
+use Rattle.cil_model.specs.declared.program.FieldDesc.{FieldDesc}
+use Rattle.cil_model.specs.declared.program.MethodDesc.{MethodDesc}
+use Rattle.cil_model.specs.declared.run.Reply.{Reply}
+use Rattle.cil_model.specs.declared.run.Outcome.{Outcome}
+use Rattle.cil_semantics.specs.Words.{maybe}
+use Rattle.cil_semantics.specs.Core.{Name, string_ty, contract_name, helper_name}
+use Rattle.cil_semantics.specs.Lookups.{type_of, field_of, method_of, in_set}
+use Rattle.cil_semantics.specs.State.{World, Statics, Next, Ends}
+use Rattle.cil_semantics.specs.Contracted.{effective_of}
+use Rattle.cil_semantics.specs.Frames.{param_types, owner_type}
+use Rattle.cil_semantics.specs.Outside.{all_fit, fits}
+use Rattle.cil_semantics.specs.Checks.{Numbers, kind_ty, exception_ty}
+use Rattle.cil_semantics.specs.Machine.{run, plain_run, empty_world}
+use Rattle.cil_semantics.specs.Simulation.{IsPrefix, trace_of}
+
+-- ---- identity (ECMA-335, II.6.2): a row of an assembly, or outside the set a name
+
+pub record SameType (a b : TypeDesc) : Type 0 where
+  pub assembly : a.assembly ≡ b.assembly
+  pub row : a.row ≡ b.row
+  pub name : a.name ≡ b.name
+  pub outside : a.outside ≡ b.outside
+
+pub record SameField (a b : FieldDesc) : Type 0 where
+  pub owner : a.owner ≡ b.owner
+  pub name : a.name ≡ b.name
+  pub ty : a.ty ≡ b.ty
+  pub is_static : a.is_static ≡ b.is_static
+
+pub record SameMember (a b : MethodDesc) : Type 0 where
+  pub assembly : a.assembly ≡ b.assembly
+  pub row : a.row ≡ b.row
+  pub owner : a.owner ≡ b.owner
+  pub name : a.name ≡ b.name
+  pub params : a.params ≡ b.params
+  pub result : a.result ≡ b.result
+  pub is_static : a.is_static ≡ b.is_static
+  pub outside : a.outside ≡ b.outside
+
+-- each number of the first program names in the second what it names in the first
+pub record KeepsIdentities (p p' : Program) : Type 0 where
+  pub types : (k : ℕ) → k < length p.types → SameType (type_of p k) (type_of p' k)
+  pub fields : (k : ℕ) → k < length p.fields → SameField (field_of p k) (field_of p' k)
+  pub methods : (k : ℕ) → k < length p.methods → SameMember (method_of p k) (method_of p' k)
+
+-- a static member outside of this type, name and signature
+pub record IsHelper (p : Program) (m : ℕ) (called : Name) (takes : List Ty) (gives : Ty) : Type 0 where
+  pub outside : IsTrue (method_of p m).outside
+  pub owner : (type_of p (method_of p m).owner).name ≡ helper_name
+  pub name : (method_of p m).name ≡ called
+  pub params : (method_of p m).params ≡ takes
+  pub result : (method_of p m).result ≡ gives
+
+-- what the numbers of a run with contracts name in the second program, where it has them
+pub record NamesAdded (p p' : Program) (g : Numbers) : Type 0 where
+  pub unused : length p.types ≤ g.exception
+  pub exception : g.exception < length p'.types → (type_of p' g.exception).name ≡ codes "__ContractsRuntime/ContractException"
+  pub event : g.event < length p'.methods → IsHelper p' g.event (codes "RaiseContractFailedEvent") (kind_ty ∷ string_ty ∷ string_ty ∷ exception_ty ∷ []) string_ty
+  pub trigger : g.trigger < length p'.methods → IsHelper p' g.trigger (codes "TriggerFailure") (kind_ty ∷ string_ty ∷ string_ty ∷ string_ty ∷ exception_ty ∷ []) (Prim 0x01)
+
+-- ---- worlds
+
+-- a type of the first program, whose numbers stand first
+abbrev pub is_input_type : Program → Ty → Bool
+is_input_type p t = maybe true (λ (d : ℕ × List Ty). nat_lt d.0 (length p.types)) (in_set (out-Ty t))
+
+-- the statics but those of what was appended
+abbrev pub input_statics : Program → World → List Statics
+input_statics p w = filter (λ (s : Statics). is_input_type p s.owner) w.statics
+
+pub record SameWorld (p : Program) (w w' : World) : Type 0 where
+  pub heap : w.heap ≡ w'.heap
+  pub statics : input_statics p w ≡ input_statics p w'
+  pub trace : w.trace ≡ w'.trace
+
+-- the run is over in this way, and leaves the same
+abbrev pub EndsSame : (World → Type 0) → Next → Outcome → Type 0
+EndsSame E x o = (w : World) × (x ≡ Ends o w) × E w
+
+-- ---- entries
+
+-- A method of the set with a body, of no contract reference assembly and without type parameters, and arguments that fit.
+pub record IsEntry (p : Program) (m : ℕ) (args : List Value) : Type 0 where
+  pub there : m < length p.methods
+  pub body : IsSome (method_of p m).body
+  pub inside : IsFalse (method_of p m).outside
+  pub owned : IsFalse (type_of p (method_of p m).owner).reference
+  pub closed : ((method_of p m).generics ≡ 0) × ((type_of p (method_of p m).owner).generics ≡ 0)
+  pub fitting : IsTrue (all_fit (fits p (empty_world [])) (param_types p (owner_type p m []) m []) args)
+
+-- ---- how many steps one step may take
+
+abbrev pub count_clauses : Effective → ℕ
+count_clauses e = length e.clauses + (length e.invariants + length e.asserts)
+
+-- the most clauses, invariants and asserts of one of the methods from a number on
+abbrev pub most_clauses : Contracts → Program → ℕ → List MethodDesc → ℕ
+most_clauses k p m [] = 0
+most_clauses k p m (d ∷ ds) = max (maybe 0 count_clauses (effective_of k p m)) (most_clauses k p (suc m) ds)
+
+abbrev pub bound_of : Contracts → Program → ℕ
+bound_of k p = 64 * (1 + most_clauses k p 0 p.methods)
+
+-- ---- same behaviour
+
+-- For every entry, replies and number of steps the runs end together and tell the same.
+pub record Same (p : Program) (k : Contracts) (p' : Program) : Type 0 where
+  pub numbers : Numbers
+  pub identities : KeepsIdentities p p'
+  pub added : NamesAdded p p' numbers
+  pub ends_only : (m : ℕ) (args : List Value) (rs : List Reply) (n : ℕ) (o : Outcome) (w' : World) → IsEntry p m args → plain_run p' m args rs n ≡ Ends o w' → EndsSame (λ w. SameWorld p w w') (run p k numbers m args rs n) o
+  pub ends_too : (m : ℕ) (args : List Value) (rs : List Reply) (n : ℕ) (o : Outcome) (w : World) → IsEntry p m args → run p k numbers m args rs n ≡ Ends o w → EndsSame (SameWorld p w) (plain_run p' m args rs (bound_of k p * (n + 1))) o
+  pub writes_no_more : (m : ℕ) (args : List Value) (rs : List Reply) (n : ℕ) → IsEntry p m args → IsPrefix (trace_of (plain_run p' m args rs n)) (trace_of (run p k numbers m args rs n))
+  pub writes_no_less : (m : ℕ) (args : List Value) (rs : List Reply) (n : ℕ) → IsEntry p m args → IsPrefix (trace_of (run p k numbers m args rs n)) (trace_of (plain_run p' m args rs (bound_of k p * (n + 1))))
