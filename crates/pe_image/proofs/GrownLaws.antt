@@ -104,9 +104,9 @@ by_test false m n e = inr (leb-false m n e)
 
 gap_length : (bytes : List ℕ) (end size : ℕ) → size ≤ length bytes → length (between bytes end size) ≡ size - end
 gap_length bytes end size within = elim (by_test (leb end size) end size refl) [
-  inl le ↦ len_between bytes end size le within
+  | inl le ↦ len_between bytes end size le within
   | inr gt ↦ (let none : size - end ≡ 0 = omega arith in ap (λ (n : ℕ). length (take n (drop end bytes))) none ∙ sym none)
-  ]
+]
 
 front_grown : (bytes : List ℕ) (h : Headers) (cli_at len : ℕ) (g : Growth) → Sizes bytes h cli_at len g → length (grown_front bytes h g len) ≡ g.headers_size
 front_grown bytes h cli_at len g s =
@@ -221,9 +221,9 @@ kept_bytes bytes h cli_at cli section g s at n low high apart =
     ∙ ap (λ (k : ℕ). part (grown_rest bytes h cli_at cli section g) k n) moved
     ∙ in_first (concat (kept bytes size cli_at cli)) (zeros (g.raw_at - (length bytes + g.by))) section (zeros (g.raw_size - length section)) (at - size) n (let long = kept_length bytes size cli_at cli behind here in omega arith)
     ∙ elim apart [
-      inl before ↦ before_cli bytes size cli_at cli at n behind here low before
+      | inl before ↦ before_cli bytes size cli_at cli at n behind here low before
       | inr after ↦ after_cli bytes size cli_at cli at n behind here low high after
-      ]
+    ]
 
 -- The new section stands whole at its place.
 pub placed : (bytes : List ℕ) (h : Headers) (cli_at : ℕ) (cli : CliHeader) (section : List ℕ) (g : Growth) → Sizes bytes h cli_at (length section) g → part (grown bytes h cli_at cli section g) g.raw_at (length section) ≡ section

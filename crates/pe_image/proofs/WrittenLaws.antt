@@ -69,8 +69,8 @@ sizes bytes a h cli_at len order behind here = record {
 keeps_at : (bytes : List ℕ) (h : Headers) (at : ℕ) (cli : CliHeader) (section out : List ℕ) → Sizes bytes h at (length section) (growth_of bytes h (length section)) → Gives bytes h at cli section out → KeepsAt bytes out h at
 keeps_at bytes h at cli section out s gives = record {
   kept = λ p n low high apart.
-    ap (λ (x : List ℕ). part x (p + headers_growth bytes h) n) gives.out_is
-    ∙ kept_bytes bytes h at cli section (growth_of bytes h (length section)) s p n low high apart
+      ap (λ (x : List ℕ). part x (p + headers_growth bytes h) n) gives.out_is
+      ∙ kept_bytes bytes h at cli section (growth_of bytes h (length section)) s p n low high apart;
 }
 
 pub keeps : (bytes : List ℕ) (h : Headers) (at : ℕ) (cli : CliHeader) (section out : List ℕ) → h ≡ headers_of bytes → at ≡ cli_place bytes h → Sizes bytes h at (length section) (growth_of bytes h (length section)) → Gives bytes h at cli section out → KeepsBytes bytes out
