@@ -1,7 +1,7 @@
 -- One section header of the table after another.
-use Rattle.std.proofs.Common.{◌≡◌, ℕ, zero, suc, ◌+◌, ◌-◌, ◌*◌, ◌<◌, ◌≤◌, Bool, true, false, cond, not, leb, ltb, ◌||◌, ◌&&◌, List, [], ◌∷◌, ◌++◌, length, Some, None, refl, sym, ap, ◌∙◌, arith}
+use Rattle.std.proofs.Common.{◌≡◌, ℕ, zero, suc, ◌+◌, ◌-◌, ◌*◌, ◌<◌, ◌≤◌, Bool, true, false, cond, not, leb, ltb, ◌||◌, ◌&&◌, List, [], ◌∷◌, ◌++◌, length, Some, None, refl, sym, ap, subst, ◌∙◌, arith}
 use Rattle.std.specs.Prelude.{find, nat_lt}
-use Rattle.std.proofs.lemmas.Bool.{leb-true, leb-false, le-leb, lt-leb, lt-ltb, le-ltb}
+use Rattle.std.proofs.lemmas.Bool.{leb-true, leb-false, le-leb, lt-leb, lt-ltb, le-ltb, ltb-true, ltb-false}
 use Rattle.std.proofs.lemmas.Option.{same_Some}
 use Rattle.cil_base.specs.declared.rule.Rule.TheVariants.{P3}
 use Rattle.cil_base.specs.Refusals.{refusal, Test, first_of}
@@ -159,3 +159,39 @@ each_within bytes a f g at (suc n) zero q e h same =
     rw here (misplaced_not bytes f g (section_at bytes at) (none_after bytes a f g at n e).0)
 each_within bytes a f g at (suc n) (suc i) q e h same =
     each_within bytes a (address_end (section_at bytes at)) (cond (nat_lt 0 (section_at bytes at).raw_size) (raw_end (section_at bytes at)) g) (at + 40) n i q (none_after bytes a f g at n e).1 (omega arith) (omega arith)
+
+floor_not : (bytes : List ℕ) (f g : ℕ) (s : Section) → is_misplaced bytes f g s ≡ false → 0 < s.raw_size → g ≤ s.raw_at
+floor_not bytes f g s e some = go (ltb s.address f) (ltb 0 s.raw_size) (ltb s.raw_at g) (leb (raw_end s) (length bytes)) e (lt-ltb 0 s.raw_size some) (ltb-false s.raw_at g)
+  where
+    go : (p q r t : Bool) → (p || (q && (r || not t))) ≡ false → q ≡ true → (r ≡ false → g ≤ s.raw_at) → g ≤ s.raw_at
+    go p q false t e h k = k refl
+    go true q true t e h k = absurd cc
+    go false false true t e h k = absurd cc
+    go false true true t e h k = absurd cc
+
+-- the floor of the raw bytes rises
+floor_up : (bytes : List ℕ) (f g : ℕ) (s : Section) → is_misplaced bytes f g s ≡ false → g ≤ cond (nat_lt 0 s.raw_size) (raw_end s) g
+floor_up bytes f g s e = go (ltb 0 s.raw_size) refl
+  where
+    go : (b : Bool) → ltb 0 s.raw_size ≡ b → g ≤ cond b (raw_end s) g
+    go true t = omega (arith, floor_not bytes f g s e (ltb-true 0 s.raw_size t))
+    go false t = omega arith
+
+-- raw bytes stand behind the headers
+pub behind_floor : (p : Section → Bool) (bytes : List ℕ) (a f g at n : ℕ) (s : Section) → first_of (section_tests bytes a f g at n) ≡ None → find p (sections_at bytes at n) ≡ Some s → 0 < s.raw_size → g ≤ s.raw_at
+behind_floor p bytes a f g at zero s e h some = absurd cc
+behind_floor p bytes a f g at (suc n) s e h some =
+    let q = none_after bytes a f g at n e in
+    go (λ k. behind_floor p bytes a (address_end (section_at bytes at)) (cond (nat_lt 0 (section_at bytes at).raw_size) (raw_end (section_at bytes at)) g) (at + 40) n s q.1 k some) (floor_up bytes f g (section_at bytes at) q.0) (floor_not bytes f g (section_at bytes at) q.0) (p (section_at bytes at)) refl
+  where
+    go : (find p (sections_at bytes (at + 40) n) ≡ Some s → cond (nat_lt 0 (section_at bytes at).raw_size) (raw_end (section_at bytes at)) g ≤ s.raw_at) → g ≤ cond (nat_lt 0 (section_at bytes at).raw_size) (raw_end (section_at bytes at)) g → (0 < (section_at bytes at).raw_size → g ≤ (section_at bytes at).raw_at) → (m : Bool) → p (section_at bytes at) ≡ m → g ≤ s.raw_at
+    go ih up here false t = omega (arith, ih (rw t at h))
+    go ih up here true t =
+        let same : section_at bytes at ≡ s = same_Some (section_at bytes at) s (rw t at h) in
+        subst (λ (x : Section). g ≤ x.raw_at) same (here (subst (λ (x : Section). 0 < x.raw_size) (sym same) some))
+
+pub cli_behind : (bytes : List ℕ) (a f size rva : ℕ) (h : Headers) (s : Section) → first_of (section_tests bytes a f size h.sections h.count) ≡ None → section_of bytes h rva 72 ≡ Some s → size ≤ place_in s rva
+cli_behind bytes a f size rva h s e found =
+    let both = holds_true rva 72 s (find_meets (holds rva 72) (sections_of bytes h) s found) in
+    let le = behind_floor (holds rva 72) bytes a f size h.sections h.count s e found (omega (arith, both.0, both.1)) in
+    omega arith

@@ -1,5 +1,5 @@
 -- The bytes of an image that has grown by one section (ECMA-335, II.25): where each of them comes from.
-use Rattle.std.specs.Prelude.{ℕ, zero, suc, ◌+◌, ◌-◌, nat_lt, max, List, [], ◌∷◌, ◌++◌, length, replicate, bit_and, Result, Ok, Err, if◌then◌else◌}
+use Rattle.std.specs.Prelude.{◌≡◌, ◌⊎◌, ◌≤◌, ℕ, zero, suc, ◌+◌, ◌-◌, nat_lt, max, List, [], ◌∷◌, ◌++◌, length, replicate, bit_and, Result, Ok, Err, if◌then◌else◌}
 use Rattle.std.specs.List.{concat}
 use Rattle.byteorder.specs.Endian.{little_bytes}
 use Rattle.cil_base.specs.declared.refusal.Refusal.{Refusal}
@@ -10,7 +10,7 @@ use Rattle.pe_image.specs.declared.growth.Growth.{Growth}
 use Rattle.pe_image.specs.Headers.{headers_of, headers_size, table_end}
 use Rattle.pe_image.specs.Sections.{section_at, part}
 use Rattle.pe_image.specs.Cli.{cli_place, cli_of}
-use Rattle.pe_image.specs.Growth.{growth_in}
+use Rattle.pe_image.specs.Growth.{growth_in, growth_of, headers_growth}
 
 -- the old bytes from a place up to another
 abbrev pub between : List ℕ → ℕ → ℕ → List ℕ
@@ -104,3 +104,14 @@ grown_in bytes a h cli_at cli section = grown_by (growth_in bytes a h (length se
 unfoldable pub grown_of : List ℕ → ℕ → List ℕ → ℕ → ℕ → Result (List ℕ) Refusal
 grown_of bytes a section rva len =
     grown_in bytes a (headers_of bytes) (cli_place bytes (headers_of bytes)) (grown_cli (cli_of bytes) rva len) section
+
+-- The old bytes behind the headers, but for those of the CLI header, stand there as much further on as the headers grew.
+pub record KeepsAt (old new : List ℕ) (h : Headers) (cli_at : ℕ) : Type 0 where
+  pub kept : (at n : ℕ) → headers_size old h ≤ at → at + n ≤ length old → (at + n ≤ cli_at + 8) ⊎ (cli_at + 40 ≤ at) → part new (at + headers_growth old h) n ≡ part old at n
+
+unfoldable pub KeepsBytes : List ℕ → List ℕ → Type 0
+KeepsBytes old new = KeepsAt old new (headers_of old) (cli_place old (headers_of old))
+
+-- where the raw bytes of a new section of so many bytes stand
+unfoldable pub new_place : List ℕ → ℕ → ℕ
+new_place bytes len = (growth_of bytes (headers_of bytes) len).raw_at

@@ -1,7 +1,7 @@
 // An image behind its headers.
 ghost use Rattle.std.specs.Prelude.{◌≡◌, ◌+◌, ◌-◌, ◌<◌, ◌≤◌, ◌^◌, length, option_copied, Some, None, IfOk, OnOk, IfErr, Ok, Err};
 ghost use Rattle.cil_base.specs.Refusals.{First, NoneBroken, OnRefused};
-ghost use Rattle.pe_image.specs.Written.{grown_of};
+ghost use Rattle.pe_image.specs.Written.{KeepsBytes, new_place, grown_of};
 ghost use Rattle.pe_image.specs.Sections.{part, at_rva, tail_at};
 ghost use Rattle.pe_image.specs.Cli.{cli_of, metadata_of};
 ghost use Rattle.pe_image.specs.Rules.{Broken};
@@ -30,6 +30,7 @@ pub struct Image<'a> {
 impl<'a> Model for Image<'a> {
     ghost use Rattle.std.specs.Prelude.{◌≡◌, ◌+◌, ◌≤◌, length, None};
     ghost use Rattle.cil_base.specs.Refusals.{first_of};
+    ghost use Rattle.pe_image.specs.Headers.{headers_size};
     ghost use Rattle.pe_image.specs.Images.{File, InOrder};
     ghost use Rattle.pe_image.specs.Cli.{cli_place, cli_of, metadata_of};
     ghost use Rattle.pe_image.specs.Rules.{cli_tests};
@@ -42,6 +43,7 @@ impl<'a> Model for Image<'a> {
         InOrder i.bytes.now i.assembly i.headers
         × (first_of (cli_tests i.bytes.now i.assembly i.headers) ≡ None)
         × (i.cli_offset ≡ cli_place i.bytes.now i.headers)
+        × (headers_size i.bytes.now i.headers ≤ i.cli_offset)
         × (i.cli_offset + 72 ≤ length i.bytes.now)
         × (i.cli ≡ cli_of i.bytes.now)
         × (i.metadata.now ≡ metadata_of i.bytes.now) };
@@ -132,6 +134,9 @@ pub fn write_image(
 ) -> Result<Bytes, Fault>
     requires { length section.now < 2 ^ 32 }
     ensures ok { IfOk result (λ out. grown_of img.now.bytes img.now.assembly section.now metadata_rva metadata_len ≡ Ok out) }
+    ensures short { IfOk result (λ out. length out ≤ 2 ^ 27) }
+    ensures kept { IfOk result (λ out. KeepsBytes img.now.bytes out) }
+    ensures placed { IfOk result (λ out. part out (new_place img.now.bytes (length section.now)) (length section.now) ≡ section.now) }
     ensures refused { OnRefused result (λ r. grown_of img.now.bytes img.now.assembly section.now metadata_rva metadata_len ≡ Err r) }
 {
     let cli = img.cli.grown(metadata_rva, metadata_len);

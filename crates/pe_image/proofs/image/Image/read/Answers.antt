@@ -1,12 +1,12 @@
 use Rattle.std.proofs.Common.{◌≡◌, ◌+◌, ◌≤◌, length, ◌∙◌, sym, ap}
 use Rattle.std.proofs.lemmas.Result.{err_from_is_err_and}
 use Rattle.cil_base.specs.Refusals.{first_of}
-use Rattle.pe_image.specs.Headers.{cli_rva}
+use Rattle.pe_image.specs.Headers.{headers_size, cli_rva}
 use Rattle.pe_image.specs.Sections.{place_in}
 use Rattle.pe_image.specs.Cli.{cli_of, cli_place}
 use Rattle.pe_image.specs.Rules.{cli_tests}
 use Rattle.pe_image.specs.declared.headers.Headers.{Headers}
-use Rattle.pe_image.proofs.SectionLaws.{place_within}
+use Rattle.pe_image.proofs.SectionLaws.{place_within, cli_behind}
 use Rattle.pe_image.proofs.RuleLaws.{refused_header, refused_cli, accepted}
 use Rattle.pe_image.proofs.ImageLaws.{place_is, cli_same, cli_is, metadata_is}
 use Rattle.pe_image.proofs.image.Image.read.Goals as goal
@@ -44,10 +44,14 @@ invariant_of-result c =
     let s = c.in_ok-headers.section in
     let le : place_in s (cli_rva b h) + 72 ≤ length b = place_within b h (cli_rva b h) 72 s c.in_ok-headers.ensures.section c.in_ok-headers.ensures.within in
     let here : c.place-cli_offset.result + 72 ≤ length b = rw (c.place-cli_offset.ensures, c.cli_rva-rva.ensures) le in
+    let size = headers_size b h in
+    let after : size ≤ place_in s (cli_rva b h) = cli_behind b a size size (cli_rva b h) h s c.in_ok-headers.ensures.headers.sections c.in_ok-headers.ensures.section in
+    let behind : size ≤ c.place-cli_offset.result = rw (c.place-cli_offset.ensures, c.cli_rva-rva.ensures) after in
     let same : c.in_ok-cli.cli ≡ cli_of b = cli_is b h c.cli_rva-rva.result c.place-cli_offset.result c.in_ok-cli.cli c.in_ok-headers.ensures.headers.headers c.cli_rva-rva.ensures at c.in_ok-cli.ensures.cli in (
       c.in_ok-headers.ensures.headers,
       cli_same b a h c.place-cli_offset.result at ∙ c.in_ok-cli.ensures.tests,
       at,
+      behind,
       here,
       same,
       metadata_is b h c.in_ok-cli.cli c.in_ok-cli.section c.place.result c.part-metadata.result.now c.in_ok-headers.ensures.headers.headers same c.in_ok-cli.ensures.section c.place.ensures c.part-metadata.ensures,
