@@ -11,3 +11,4 @@ pub mod TableLaws
 pub mod AcceptLaws
 pub mod SettingLaws
 pub mod RvaLaws
+pub mod GrowsLaws
