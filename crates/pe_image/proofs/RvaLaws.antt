@@ -1,0 +1,210 @@
+-- What stands at an RVA of a grown image.
+use Rattle.std.proofs.Common.{◌≡◌, ℕ, zero, suc, ◌+◌, ◌-◌, ◌*◌, ◌^◌, ◌<◌, ◌≤◌, max, Bool, true, false, cond, not, leb, ltb, ◌||◌, ◌&&◌, List, [], ◌∷◌, ◌++◌, length, take, drop, Option, Some, None, refl, sym, ap, subst, ◌∙◌, inl, inr, ◌⊎◌, arith, append_assoc}
+use Rattle.std.specs.Prelude.{find, nat_lt, is_some, option_map, unwrap_or}
+use Rattle.std.specs.List.{concat}
+use Rattle.std.proofs.lemmas.Bool.{le-leb, lt-leb}
+use Rattle.std.proofs.lemmas.Option.{same_Some}
+use Rattle.std.proofs.lemmas.List.{length-append, length-drop, length-replicate, length-take-le, take_all, drop-append-le}
+use Rattle.cil_base.specs.Refusals.{first_of}
+use Rattle.pe_image.specs.declared.headers.Headers.{Headers}
+use Rattle.pe_image.specs.declared.section.Section.{Section}
+use Rattle.pe_image.specs.declared.cli.CliHeader.{CliHeader}
+use Rattle.pe_image.specs.declared.growth.Growth.{Growth}
+use Rattle.pe_image.specs.Headers.{headers_of, headers_size, cli_rva, table_end}
+use Rattle.pe_image.specs.Sections.{section_at, sections_at, sections_of, section_of, place_in, part, at_rva, tail_at, address_end, raw_end, holds}
+use Rattle.pe_image.specs.Growth.{addresses_end}
+use Rattle.pe_image.specs.Written.{zeros, grown, grown_front, grown_rest, kept}
+use Rattle.pe_image.proofs.GrownLaws.{Sizes, skip, front_grown, kept_length, kept_bytes, placed}
+use Rattle.pe_image.proofs.SectionLaws.{holds_true, find_meets, found_in, behind_floor}
+use Rattle.pe_image.proofs.PieceLaws.{within}
+use Rattle.pe_image.proofs.FieldLaws.{with_one, IsMoved, new_section}
+use Rattle.pe_image.proofs.TableLaws.{TableGrown, FoundGrown, found_grown, none_grown, found_apart}
+use Rattle.pe_image.proofs.AcceptLaws.{HasCli}
+use Rattle.pe_image.proofs.SettingLaws.{Setting, Numbers, numbers, fields, table, old_cli, old_place, cli_in_section, place_grown}
+
+-- ---- the bytes of an old section
+
+-- A range of an old section stays, where it doesn't meet the changed fields of the CLI header.
+same_bytes : (b : List ℕ) (a : ℕ) (h : Headers) (at : ℕ) (cli : CliHeader) (section out : List ℕ) (g : Growth) → Setting b a h at cli section out g → (rva m n : ℕ) (u t : Section) → section_of b h rva m ≡ Some u → IsMoved u t g.by → u.address ≤ rva → rva + n ≤ u.address + u.raw_size → (rva + n ≤ cli_rva b h + 8) ⊎ (cli_rva b h + 40 ≤ rva) → part out (place_in t rva) n ≡ part b (place_in u rva) n
+same_bytes b a h at cli section out g s rva m zero u t found moved low high apart = refl
+same_bytes b a h at cli section out g s rva m (suc n) u t found moved low high apart =
+    let size = headers_size b h in
+    let c = old_cli b a h at cli section out g s in
+    let inside = cli_in_section b a h at cli section out g s in
+    let place = old_place b a h at cli section out g s in
+    let some : 0 < u.raw_size = omega arith in
+    let more : 0 < c.section.raw_size = omega (arith, inside.0, inside.1) in
+    let floor : size ≤ u.raw_at = behind_floor (holds rva m) b a size size h.sections h.count u s.order.sections found some in
+    let end : raw_end u ≤ length b = (found_in (holds rva m) b a size size h.sections h.count u s.order.sections found).within some in
+    ap (λ (x : List ℕ). part x (place_in t rva) (suc n)) s.out_is
+    ∙ ap (λ (k : ℕ). part (grown b h at cli section g) k (suc n)) (place_grown u t g.by rva moved some)
+    ∙ kept_bytes b h at cli section g s.sizes (place_in u rva) (suc n) (omega arith) (omega arith) (elim (found_apart (holds rva m) (holds (cli_rva b h) 72) b a size size h.sections h.count u c.section s.order.sections found c.found some more) [
+      | inl same ↦ (let e1 : u.raw_at ≡ c.section.raw_at = ap (λ (x : Section). x.raw_at) same in
+          let e2 : u.address ≡ c.section.address = ap (λ (x : Section). x.address) same in
+          elim apart [ inl before ↦ inl (omega (arith, inside.0)) | inr after ↦ inr (omega (arith, inside.0)) ])
+      | inr other ↦ elim other [ inl before ↦ inl (omega (arith, inside.0)) | inr after ↦ inr (omega (arith, inside.0, inside.1)) ]
+    ])
+
+-- ---- what is found
+
+-- a section is found, and this is made of it
+pub record From (f : Section → List ℕ) (o : Option Section) (x : List ℕ) : Type 0 where
+  pub section : Section
+  pub is : o ≡ Some section
+  pub value : f section ≡ x
+
+mapped : (f : Section → List ℕ) (o : Option Section) (x : List ℕ) → option_map f o ≡ Some x → From f o x
+mapped f (Some s) x e = record { section = s; is = refl; value = same_Some (f s) x e }
+mapped f None x e = absurd cc
+
+unmapped : (f : Section → List ℕ) (o : Option Section) → option_map f o ≡ None → o ≡ None
+unmapped f (Some s) e = absurd cc
+unmapped f None e = refl
+
+pub is_found : (f : Section → List ℕ) (o : Option Section) (x : List ℕ) → option_map f o ≡ Some x → is_some o ≡ true
+is_found f (Some s) x e = refl
+is_found f None x e = absurd cc
+
+old_section : (b : List ℕ) (a : ℕ) (h : Headers) (at : ℕ) (cli : CliHeader) (section out : List ℕ) (g : Growth) → Setting b a h at cli section out g → (rva n : ℕ) → section_of b h rva n ≡ section_of b (headers_of b) rva n
+old_section b a h at cli section out g s rva n = ap (λ (k : Headers). section_of b k rva n) s.order.headers
+
+out_section : (b : List ℕ) (a : ℕ) (h : Headers) (at : ℕ) (cli : CliHeader) (section out : List ℕ) (g : Growth) → Setting b a h at cli section out g → (rva n : ℕ) → section_of out (headers_of out) rva n ≡ find (holds rva n) (sections_at out h.sections (suc h.count))
+out_section b a h at cli section out g s rva n = ap (λ (k : Headers). section_of out k rva n) (fields b a h at cli section out g s).headers
+
+out_found : (b : List ℕ) (a : ℕ) (h : Headers) (at : ℕ) (cli : CliHeader) (section out : List ℕ) (g : Growth) → Setting b a h at cli section out g → (rva n : ℕ) (u : Section) → section_of b h rva n ≡ Some u → FoundGrown rva n out h.sections h.count u g.by
+out_found b a h at cli section out g s rva n u e =
+    found_grown rva n b out g.by h.sections h.count (new_section (length section) g) u (table b a h at cli section out g s) e
+
+pub old_rva : (b : List ℕ) (a : ℕ) (h : Headers) (at : ℕ) (cli : CliHeader) (section out : List ℕ) (g : Growth) → Setting b a h at cli section out g → (rva n : ℕ) (x : List ℕ) → at_rva b rva n ≡ Some x → (rva + n ≤ cli_rva b h + 8) ⊎ (cli_rva b h + 40 ≤ rva) → at_rva out rva n ≡ Some x
+old_rva b a h at cli section out g s rva n x e apart =
+    let m = mapped (λ (u : Section). part b (place_in u rva) n) (section_of b (headers_of b) rva n) x e in
+    let found : section_of b h rva n ≡ Some m.section = old_section b a h at cli section out g s rva n ∙ m.is in
+    let t = out_found b a h at cli section out g s rva n m.section found in
+    let both = holds_true rva n m.section (find_meets (holds rva n) (sections_of b h) m.section found) in
+    ap (option_map (λ (u : Section). part out (place_in u rva) n)) (out_section b a h at cli section out g s rva n ∙ t.found)
+    ∙ ap Some (same_bytes b a h at cli section out g s rva n n m.section t.section found t.moved both.0 both.1 apart ∙ m.value)
+
+pub old_tail : (b : List ℕ) (a : ℕ) (h : Headers) (at : ℕ) (cli : CliHeader) (section out : List ℕ) (g : Growth) → Setting b a h at cli section out g → (rva : ℕ) (x : List ℕ) → tail_at b rva ≡ Some x → (rva + length x ≤ cli_rva b h + 8) ⊎ (cli_rva b h + 40 ≤ rva) → tail_at out rva ≡ Some x
+old_tail b a h at cli section out g s rva x e apart =
+    let size = headers_size b h in
+    let m = mapped (λ (u : Section). part b (place_in u rva) (u.address + u.raw_size - rva)) (section_of b (headers_of b) rva 1) x e in
+    let u = m.section in
+    let found : section_of b h rva 1 ≡ Some u = old_section b a h at cli section out g s rva 1 ∙ m.is in
+    let t = out_found b a h at cli section out g s rva 1 u found in
+    let both = holds_true rva 1 u (find_meets (holds rva 1) (sections_of b h) u found) in
+    let some : 0 < u.raw_size = omega (arith, both.0, both.1) in
+    let end : raw_end u ≤ length b = (found_in (holds rva 1) b a size size h.sections h.count u s.order.sections found).within some in
+    let n = u.address + u.raw_size - rva in
+    let long : length (part b (place_in u rva) n) ≡ n = length-take-le n (drop (place_in u rva) b) (omega (arith, length-drop (place_in u rva) b, both.0, both.1)) in
+    let same_long : length x ≡ n = ap length (sym m.value) ∙ long in
+    let apart_n : (rva + n ≤ cli_rva b h + 8) ⊎ (cli_rva b h + 40 ≤ rva) = subst (λ (k : ℕ). (rva + k ≤ cli_rva b h + 8) ⊎ (cli_rva b h + 40 ≤ rva)) same_long apart in
+    ap (option_map (λ (v : Section). part out (place_in v rva) (v.address + v.raw_size - rva))) (out_section b a h at cli section out g s rva 1 ∙ t.found)
+    ∙ ap (λ (v : Section). Some (part out (place_in t.section rva) (v.address + v.raw_size - rva))) t.moved.rest
+    ∙ ap Some (same_bytes b a h at cli section out g s rva 1 n u t.section found t.moved both.0 (omega (arith, both.0, both.1)) apart_n ∙ m.value)
+
+-- ---- the new section
+
+past_all : (rva n : ℕ) (xs : List Section) → addresses_end xs ≤ rva → 0 < n → find (holds rva n) xs ≡ None
+past_all rva n [] le some = refl
+past_all rva n (x ∷ xs) le some =
+    let past : leb (rva + n) (x.address + x.raw_size) ≡ false = lt-leb (rva + n) (x.address + x.raw_size) (omega arith) in
+    rw (past, no (leb x.address rva)) (past_all rva n xs (omega arith) some)
+  where
+    no : (p : Bool) → (p && false) ≡ false
+    no true = refl
+    no false = refl
+
+new_holds : (rva n len : ℕ) (g : Growth) → g.address ≤ rva → rva + n ≤ g.address + g.raw_size → holds rva n (new_section len g) ≡ true
+new_holds rva n len g low high = rw (le-leb g.address rva low, le-leb (rva + n) (g.address + g.raw_size) high) refl
+
+pub new_found : (b : List ℕ) (a : ℕ) (h : Headers) (at : ℕ) (cli : CliHeader) (section out : List ℕ) (g : Growth) → Setting b a h at cli section out g → (rva n : ℕ) → section_of b h rva n ≡ None → g.address ≤ rva → rva + n ≤ g.address + g.raw_size → section_of out (headers_of out) rva n ≡ Some (new_section (length section) g)
+new_found b a h at cli section out g s rva n none low high =
+    out_section b a h at cli section out g s rva n
+    ∙ none_grown rva n b out g.by h.sections h.count (new_section (length section) g) (table b a h at cli section out g s) none
+    ∙ ap (λ (p : Bool). cond p (Some (new_section (length section) g)) None) (new_holds rva n (length section) g low high)
+
+pub new_rva_is : (b : List ℕ) (a : ℕ) (h : Headers) (at : ℕ) (cli : CliHeader) (section out : List ℕ) (g : Growth) → Setting b a h at cli section out g → (k n : ℕ) → k + n ≤ length section → at_rva out (g.address + k) n ≡ Some (part section k n)
+new_rva_is b a h at cli section out g s k zero le = go (section_of b h (g.address + k) 0) refl
+  where
+    long : length section ≤ g.raw_size
+    long = s.sizes.raw_size
+
+    go : (o : Option Section) → section_of b h (g.address + k) 0 ≡ o → at_rva out (g.address + k) 0 ≡ Some (part section k 0)
+    go (Some u) e = ap (option_map (λ (v : Section). part out (place_in v (g.address + k)) 0)) (out_section b a h at cli section out g s (g.address + k) 0 ∙ (out_found b a h at cli section out g s (g.address + k) 0 u e).found)
+    go None e =
+        let more = long in
+        ap (option_map (λ (v : Section). part out (place_in v (g.address + k)) 0)) (new_found b a h at cli section out g s (g.address + k) 0 e (omega arith) (omega arith))
+new_rva_is b a h at cli section out g s k (suc n) le =
+    let ends = s.behind in
+    let more = s.sizes.raw_size in
+    let none : section_of b h (g.address + k) (suc n) ≡ None = past_all (g.address + k) (suc n) (sections_of b h) (omega arith) (omega arith) in
+    let there : part out g.raw_at (length section) ≡ section = ap (λ (x : List ℕ). part x g.raw_at (length section)) s.out_is ∙ placed b h at cli section g s.sizes in
+    let off : g.raw_at + (g.address + k - g.address) ≡ g.raw_at + k = omega arith in
+    ap (option_map (λ (v : Section). part out (place_in v (g.address + k)) (suc n))) (new_found b a h at cli section out g s (g.address + k) (suc n) none (omega arith) (omega arith))
+    ∙ ap (λ (p : ℕ). Some (part out p (suc n))) off
+    ∙ ap Some (within out section g.raw_at (length section) k (suc n) there le)
+
+-- the raw bytes of the new section: its own, and zeros
+new_raw : (b : List ℕ) (h : Headers) (cli_at : ℕ) (cli : CliHeader) (section : List ℕ) (g : Growth) → Sizes b h cli_at (length section) g → part (grown b h cli_at cli section g) g.raw_at g.raw_size ≡ section ++ zeros (g.raw_size - length section)
+new_raw b h cli_at cli section g s =
+    let size = headers_size b h in
+    let behind = s.behind in
+    let here = s.here in
+    let grows = s.size in
+    let beyond = s.raw_at in
+    let more = s.raw_size in
+    let k = concat (kept b size cli_at cli) in
+    let z = zeros (g.raw_at - (length b + g.by)) in
+    let y = zeros (g.raw_size - length section) in
+    let f = front_grown b h cli_at (length section) g s in
+    let lk : length k ≡ length b - size = kept_length b size cli_at cli behind here in
+    let lz : length z ≡ g.raw_at - (length b + g.by) = length-replicate {A = ℕ} (g.raw_at - (length b + g.by)) 0 in
+    let ly : length y ≡ g.raw_size - length section = length-replicate {A = ℕ} (g.raw_size - length section) 0 in
+    let lkz = length-append k z in
+    let lsy = length-append section y in
+    let off : g.raw_at - length (grown_front b h g (length section)) ≡ length (k ++ z) = omega arith in
+    let none : length (k ++ z) - length (k ++ z) ≡ 0 = omega arith in
+    skip (grown_front b h g (length section)) (grown_rest b h cli_at cli section g) g.raw_at g.raw_size (omega arith)
+    ∙ ap (λ (i : ℕ). part (grown_rest b h cli_at cli section g) i g.raw_size) off
+    ∙ ap (λ (x : List ℕ). part x (length (k ++ z)) g.raw_size) (append_assoc (k ++ z) section y)
+    ∙ skip (k ++ z) (section ++ y) (length (k ++ z)) g.raw_size (omega arith)
+    ∙ ap (λ (i : ℕ). part (section ++ y) i g.raw_size) none
+    ∙ take_all g.raw_size (section ++ y) (omega arith)
+
+rest_of : (x y : List ℕ) (k n : ℕ) → k ≤ length x → n ≡ length x + length y - k → part (x ++ y) k n ≡ drop k x ++ y
+rest_of x y k n le e =
+    ap (take n) (drop-append-le k x y le)
+    ∙ take_all n (drop k x ++ y) (omega (arith, length-append (drop k x) y, length-drop k x))
+
+pub new_tail_is : (b : List ℕ) (a : ℕ) (h : Headers) (at : ℕ) (cli : CliHeader) (section out : List ℕ) (g : Growth) → Setting b a h at cli section out g → (k : ℕ) → k < length section → tail_at out (g.address + k) ≡ Some (drop k section ++ zeros (g.raw_size - length section))
+new_tail_is b a h at cli section out g s k le =
+    let ends = s.behind in
+    let more = s.sizes.raw_size in
+    let y = zeros (g.raw_size - length section) in
+    let ly : length y ≡ g.raw_size - length section = length-replicate {A = ℕ} (g.raw_size - length section) 0 in
+    let none : section_of b h (g.address + k) 1 ≡ None = past_all (g.address + k) 1 (sections_of b h) (omega arith) (omega arith) in
+    let there : part out g.raw_at g.raw_size ≡ section ++ y = ap (λ (x : List ℕ). part x g.raw_at g.raw_size) s.out_is ∙ new_raw b h at cli section g s.sizes in
+    let off : g.raw_at + (g.address + k - g.address) ≡ g.raw_at + k = omega arith in
+    let left : g.address + g.raw_size - (g.address + k) ≡ g.raw_size - k = omega arith in
+    ap (option_map (λ (v : Section). part out (place_in v (g.address + k)) (v.address + v.raw_size - (g.address + k)))) (new_found b a h at cli section out g s (g.address + k) 1 none (omega arith) (omega arith))
+    ∙ ap (λ (p : ℕ). Some (part out p (g.address + g.raw_size - (g.address + k)))) off
+    ∙ ap (λ (n : ℕ). Some (part out (g.raw_at + k) n)) left
+    ∙ ap Some (within out (section ++ y) g.raw_at g.raw_size k (g.raw_size - k) there (omega arith) ∙ rest_of section y k (g.raw_size - k) (omega arith) (omega arith))
+
+-- ---- nothing else
+
+new_lacks : (rva n len : ℕ) (g : Growth) → (rva < g.address) ⊎ (g.address + g.raw_size < rva + n) → holds rva n (new_section len g) ≡ false
+new_lacks rva n len g (inl low) = rw (lt-leb g.address rva low) refl
+new_lacks rva n len g (inr high) = rw (lt-leb (rva + n) (g.address + g.raw_size) high) (no (leb g.address rva))
+  where
+    no : (p : Bool) → (p && false) ≡ false
+    no true = refl
+    no false = refl
+
+pub no_other : (b : List ℕ) (a : ℕ) (h : Headers) (at : ℕ) (cli : CliHeader) (section out : List ℕ) (g : Growth) → Setting b a h at cli section out g → (rva n : ℕ) → at_rva b rva n ≡ None → (rva < g.address) ⊎ (g.address + g.raw_size < rva + n) → at_rva out rva n ≡ None
+no_other b a h at cli section out g s rva n e apart =
+    let none : section_of b h rva n ≡ None = old_section b a h at cli section out g s rva n ∙ unmapped (λ (u : Section). part b (place_in u rva) n) (section_of b (headers_of b) rva n) e in
+    ap (option_map (λ (v : Section). part out (place_in v rva) n))
+    (out_section b a h at cli section out g s rva n
+    ∙ none_grown rva n b out g.by h.sections h.count (new_section (length section) g) (table b a h at cli section out g s) none
+    ∙ ap (λ (p : Bool). cond p (Some (new_section (length section) g)) None) (new_lacks rva n (length section) g apart))
