@@ -11,4 +11,4 @@ pub mod TableLaws
 pub mod AcceptLaws
 pub mod SettingLaws
 pub mod RvaLaws
-pub mod GrowsLaws
+pub mod ReadBackLaws

@@ -1,26 +1,23 @@
 -- What stands at an RVA of a grown image.
-use Rattle.std.proofs.Common.{◌≡◌, ℕ, zero, suc, ◌+◌, ◌-◌, ◌*◌, ◌^◌, ◌<◌, ◌≤◌, max, Bool, true, false, cond, not, leb, ltb, ◌||◌, ◌&&◌, List, [], ◌∷◌, ◌++◌, length, take, drop, Option, Some, None, refl, sym, ap, subst, ◌∙◌, inl, inr, ◌⊎◌, arith, append_assoc}
-use Rattle.std.specs.Prelude.{find, nat_lt, is_some, option_map, unwrap_or}
-use Rattle.std.specs.List.{concat}
-use Rattle.std.proofs.lemmas.Bool.{le-leb, lt-leb}
+use Rattle.std.proofs.Common.{◌≡◌, ℕ, zero, suc, ◌+◌, ◌-◌, ◌<◌, ◌≤◌, Bool, true, false, cond, leb, List, [], ◌∷◌, ◌++◌, length, take, drop, Option, Some, None, refl, sym, ap, subst, ◌∙◌, inl, inr, ◌⊎◌, arith}
+use Rattle.std.specs.Prelude.{find, is_some, option_map}
+use Rattle.std.proofs.lemmas.Bool.{le-leb, lt-leb, and_right}
 use Rattle.std.proofs.lemmas.Option.{same_Some}
 use Rattle.std.proofs.lemmas.List.{length-append, length-drop, length-replicate, length-take-le, take_all, drop-append-le}
-use Rattle.cil_base.specs.Refusals.{first_of}
 use Rattle.pe_image.specs.declared.headers.Headers.{Headers}
 use Rattle.pe_image.specs.declared.section.Section.{Section}
 use Rattle.pe_image.specs.declared.cli.CliHeader.{CliHeader}
 use Rattle.pe_image.specs.declared.growth.Growth.{Growth}
-use Rattle.pe_image.specs.Headers.{headers_of, headers_size, cli_rva, table_end}
-use Rattle.pe_image.specs.Sections.{section_at, sections_at, sections_of, section_of, place_in, part, at_rva, tail_at, address_end, raw_end, holds}
+use Rattle.pe_image.specs.Headers.{headers_of, headers_size, cli_rva}
+use Rattle.pe_image.specs.Sections.{sections_at, sections_of, section_of, place_in, part, at_rva, tail_at, raw_end, holds}
 use Rattle.pe_image.specs.Growth.{addresses_end}
-use Rattle.pe_image.specs.Written.{zeros, grown, grown_front, grown_rest, kept}
-use Rattle.pe_image.proofs.GrownLaws.{Sizes, skip, front_grown, kept_length, kept_bytes, placed}
+use Rattle.pe_image.specs.Written.{zeros, grown}
+use Rattle.pe_image.proofs.GrownLaws.{kept_bytes, new_raw, placed}
 use Rattle.pe_image.proofs.SectionLaws.{holds_true, find_meets, found_in, behind_floor}
 use Rattle.pe_image.proofs.PieceLaws.{within}
-use Rattle.pe_image.proofs.FieldLaws.{with_one, IsMoved, new_section}
-use Rattle.pe_image.proofs.TableLaws.{TableGrown, FoundGrown, found_grown, none_grown, found_apart}
-use Rattle.pe_image.proofs.AcceptLaws.{HasCli}
-use Rattle.pe_image.proofs.SettingLaws.{Setting, Numbers, numbers, fields, table, old_cli, old_place, cli_in_section, place_grown}
+use Rattle.pe_image.proofs.FieldLaws.{IsMoved, new_section}
+use Rattle.pe_image.proofs.TableLaws.{FoundGrown, found_grown, none_grown, found_apart}
+use Rattle.pe_image.proofs.SettingLaws.{Setting, fields, table, old_cli, old_place, cli_in_section, place_grown}
 
 -- ---- the bytes of an old section
 
@@ -108,11 +105,7 @@ past_all : (rva n : ℕ) (xs : List Section) → addresses_end xs ≤ rva → 0 
 past_all rva n [] le some = refl
 past_all rva n (x ∷ xs) le some =
     let past : leb (rva + n) (x.address + x.raw_size) ≡ false = lt-leb (rva + n) (x.address + x.raw_size) (omega arith) in
-    rw (past, no (leb x.address rva)) (past_all rva n xs (omega arith) some)
-  where
-    no : (p : Bool) → (p && false) ≡ false
-    no true = refl
-    no false = refl
+    rw (past, and_right (leb x.address rva) false refl) (past_all rva n xs (omega arith) some)
 
 new_holds : (rva n len : ℕ) (g : Growth) → g.address ≤ rva → rva + n ≤ g.address + g.raw_size → holds rva n (new_section len g) ≡ true
 new_holds rva n len g low high = rw (le-leb g.address rva low, le-leb (rva + n) (g.address + g.raw_size) high) refl
@@ -144,33 +137,6 @@ new_rva_is b a h at cli section out g s k (suc n) le =
     ∙ ap (λ (p : ℕ). Some (part out p (suc n))) off
     ∙ ap Some (within out section g.raw_at (length section) k (suc n) there le)
 
--- the raw bytes of the new section: its own, and zeros
-new_raw : (b : List ℕ) (h : Headers) (cli_at : ℕ) (cli : CliHeader) (section : List ℕ) (g : Growth) → Sizes b h cli_at (length section) g → part (grown b h cli_at cli section g) g.raw_at g.raw_size ≡ section ++ zeros (g.raw_size - length section)
-new_raw b h cli_at cli section g s =
-    let size = headers_size b h in
-    let behind = s.behind in
-    let here = s.here in
-    let grows = s.size in
-    let beyond = s.raw_at in
-    let more = s.raw_size in
-    let k = concat (kept b size cli_at cli) in
-    let z = zeros (g.raw_at - (length b + g.by)) in
-    let y = zeros (g.raw_size - length section) in
-    let f = front_grown b h cli_at (length section) g s in
-    let lk : length k ≡ length b - size = kept_length b size cli_at cli behind here in
-    let lz : length z ≡ g.raw_at - (length b + g.by) = length-replicate {A = ℕ} (g.raw_at - (length b + g.by)) 0 in
-    let ly : length y ≡ g.raw_size - length section = length-replicate {A = ℕ} (g.raw_size - length section) 0 in
-    let lkz = length-append k z in
-    let lsy = length-append section y in
-    let off : g.raw_at - length (grown_front b h g (length section)) ≡ length (k ++ z) = omega arith in
-    let none : length (k ++ z) - length (k ++ z) ≡ 0 = omega arith in
-    skip (grown_front b h g (length section)) (grown_rest b h cli_at cli section g) g.raw_at g.raw_size (omega arith)
-    ∙ ap (λ (i : ℕ). part (grown_rest b h cli_at cli section g) i g.raw_size) off
-    ∙ ap (λ (x : List ℕ). part x (length (k ++ z)) g.raw_size) (append_assoc (k ++ z) section y)
-    ∙ skip (k ++ z) (section ++ y) (length (k ++ z)) g.raw_size (omega arith)
-    ∙ ap (λ (i : ℕ). part (section ++ y) i g.raw_size) none
-    ∙ take_all g.raw_size (section ++ y) (omega arith)
-
 rest_of : (x y : List ℕ) (k n : ℕ) → k ≤ length x → n ≡ length x + length y - k → part (x ++ y) k n ≡ drop k x ++ y
 rest_of x y k n le e =
     ap (take n) (drop-append-le k x y le)
@@ -195,11 +161,7 @@ new_tail_is b a h at cli section out g s k le =
 
 new_lacks : (rva n len : ℕ) (g : Growth) → (rva < g.address) ⊎ (g.address + g.raw_size < rva + n) → holds rva n (new_section len g) ≡ false
 new_lacks rva n len g (inl low) = rw (lt-leb g.address rva low) refl
-new_lacks rva n len g (inr high) = rw (lt-leb (rva + n) (g.address + g.raw_size) high) (no (leb g.address rva))
-  where
-    no : (p : Bool) → (p && false) ≡ false
-    no true = refl
-    no false = refl
+new_lacks rva n len g (inr high) = rw (lt-leb (rva + n) (g.address + g.raw_size) high) (and_right (leb g.address rva) false refl)
 
 pub no_other : (b : List ℕ) (a : ℕ) (h : Headers) (at : ℕ) (cli : CliHeader) (section out : List ℕ) (g : Growth) → Setting b a h at cli section out g → (rva n : ℕ) → at_rva b rva n ≡ None → (rva < g.address) ⊎ (g.address + g.raw_size < rva + n) → at_rva out rva n ≡ None
 no_other b a h at cli section out g s rva n e apart =

@@ -1,24 +1,23 @@
 -- A grown image breaks no rule on headers, and its CLI header stands where it stood.
-use Rattle.std.proofs.Common.{◌≡◌, ℕ, zero, suc, ◌+◌, ◌-◌, ◌*◌, ◌^◌, ◌<◌, ◌≤◌, max, Bool, true, false, cond, not, leb, ltb, eqb, ◌||◌, ◌&&◌, List, [], ◌∷◌, ◌++◌, length, Option, Some, None, refl, sym, ap, subst, ◌∙◌, inl, inr, ◌⊎◌, arith}
-use Rattle.std.specs.Prelude.{find, nat_lt, is_some, option_map, unwrap_or}
+use Rattle.std.proofs.Common.{◌≡◌, ℕ, zero, suc, ◌+◌, ◌-◌, ◌*◌, ◌^◌, ◌<◌, ◌≤◌, Bool, true, false, not, leb, eqb, ◌&&◌, List, [], ◌∷◌, length, Option, Some, None, refl, sym, ap, subst, ◌∙◌, arith}
+use Rattle.std.specs.Prelude.{nat_lt, is_some, option_map, unwrap_or}
 use Rattle.std.proofs.lemmas.Bool.{le-leb}
-use Rattle.std.proofs.lemmas.List.{length-append}
 use Rattle.cil_base.specs.Refusals.{first_of}
 use Rattle.cil_base.specs.Numbers.{num}
 use Rattle.pe_image.specs.declared.headers.Headers.{Headers}
 use Rattle.pe_image.specs.declared.section.Section.{Section}
 use Rattle.pe_image.specs.declared.cli.CliHeader.{CliHeader}
 use Rattle.pe_image.specs.declared.growth.Growth.{Growth}
-use Rattle.pe_image.specs.Headers.{Fit, pe_of, headers_of, section_alignment, file_alignment, headers_size, cli_rva, table_end}
-use Rattle.pe_image.specs.Sections.{section_at, sections_at, sections_of, section_of, place_in, part, address_end, raw_end, holds}
+use Rattle.pe_image.specs.Headers.{pe_of, headers_of, section_alignment, file_alignment, headers_size, cli_rva}
+use Rattle.pe_image.specs.Sections.{section_at, sections_at, sections_of, section_of, place_in, holds}
 use Rattle.pe_image.specs.Growth.{addresses_end, first_address}
 use Rattle.pe_image.specs.Images.{InOrder}
 use Rattle.pe_image.specs.Cli.{cli_place, cli_at, cli_of}
 use Rattle.cil_base.specs.declared.rule.Rule.TheVariants.{P4}
-use Rattle.pe_image.specs.Rules.{test, is_il_only, section_tests, has_mz, has_pe, is_magic, is_short, is_file_alignment, header_tests, cli_tests, directory_tests}
-use Rattle.pe_image.specs.Written.{grown, moved_header}
+use Rattle.pe_image.specs.Rules.{test, is_il_only, section_tests, is_magic, is_short, is_file_alignment, header_tests, cli_tests, directory_tests}
+use Rattle.pe_image.specs.Written.{grown}
 use Rattle.pe_image.proofs.GrownLaws.{Sizes, grown_length}
-use Rattle.pe_image.proofs.SectionLaws.{floors, each_within, holds_true, find_meets, found_in, found_cli, behind_floor}
+use Rattle.pe_image.proofs.SectionLaws.{floors, each_within, holds_true, find_meets}
 use Rattle.pe_image.proofs.FrontLaws.{GrownIs, grown_fields}
 use Rattle.pe_image.proofs.FieldLaws.{with_one, FieldsAre, fields_are, IsMoved, new_section, shifted_section, fresh_section, cli_fields}
 use Rattle.pe_image.proofs.TableLaws.{TableGrown, table_head, table_end_is, FoundGrown, found_grown, tests_grown, tests_from}

@@ -5,4 +5,4 @@ pub mod Rules
 pub mod Images
 pub mod Growth
 pub mod Written
-pub mod Grown
+pub mod ReadBack

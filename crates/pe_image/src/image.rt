@@ -6,7 +6,7 @@ ghost use Rattle.pe_image.specs.Sections.{part, at_rva, tail_at};
 ghost use Rattle.pe_image.specs.Cli.{cli_of, metadata_of};
 ghost use Rattle.pe_image.specs.Rules.{Broken};
 ghost use Rattle.pe_image.specs.Growth.{room_of};
-ghost use Rattle.pe_image.specs.Grown.{Grows};
+ghost use Rattle.pe_image.specs.ReadBack.{Grows};
 
 use crate::cli::{CliHeader, read_cli};
 use crate::growth::room;

@@ -1,4 +1,4 @@
-use Rattle.std.proofs.Common.{◌≡◌, ◌+◌, ◌≤◌, ◌<◌, ◌^◌, length, arith, ◌∙◌, ap, sym, subst, List, ℕ}
+use Rattle.std.proofs.Common.{◌≡◌, ◌+◌, ◌≤◌, ◌^◌, length, arith, ◌∙◌, ap, sym, subst, List, ℕ}
 use Rattle.std.proofs.lemmas.Result.{IfOk-weaker}
 use Rattle.std.specs.Prelude.{Result, Ok, Err, IfOk}
 use Rattle.cil_base.specs.declared.refusal.Refusal.{Refusal}
@@ -10,8 +10,8 @@ use Rattle.pe_image.specs.Growth.{growth_of}
 use Rattle.pe_image.proofs.GrownLaws.{Sizes}
 use Rattle.pe_image.proofs.WrittenLaws.{Gives, grown_gives, grown_is, sizes, keeps, short_of, placed_at}
 use Rattle.pe_image.specs.Growth.{room_of}
-use Rattle.pe_image.specs.Grown.{Grows}
-use Rattle.pe_image.proofs.GrowsLaws.{grows}
+use Rattle.pe_image.specs.ReadBack.{Grows}
+use Rattle.pe_image.proofs.ReadBackLaws.{grows}
 use Rattle.pe_image.proofs.image.write_image.Goals as goal
 
 -- the definition over the image, as the code computes it

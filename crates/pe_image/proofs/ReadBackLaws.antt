@@ -1,5 +1,5 @@
 -- What a written image reads back as.
-use Rattle.std.proofs.Common.{◌≡◌, ℕ, zero, suc, ◌+◌, ◌-◌, ◌*◌, ◌^◌, ◌<◌, ◌≤◌, Bool, true, false, cond, not, leb, ltb, eqb, List, [], ◌∷◌, ◌++◌, length, drop, Option, Some, None, refl, sym, ap, subst, ◌∙◌, inl, inr, ◌⊎◌, arith}
+use Rattle.std.proofs.Common.{◌≡◌, ℕ, ◌+◌, ◌-◌, ◌^◌, ◌<◌, ◌≤◌, Bool, true, false, cond, not, ltb, eqb, List, [], ◌∷◌, length, Option, Some, None, refl, sym, ap, subst, ◌∙◌, ◌⊎◌, arith}
 use Rattle.std.specs.Prelude.{Result, Ok, Err, IfOk, bit_and, is_some, unwrap_or}
 use Rattle.std.specs.Int.{next_multiple_of}
 use Rattle.std.proofs.lemmas.Nat.{and_assoc, and_le_r}
@@ -11,20 +11,20 @@ use Rattle.pe_image.specs.declared.headers.Headers.{Headers}
 use Rattle.pe_image.specs.declared.section.Section.{Section}
 use Rattle.pe_image.specs.declared.cli.CliHeader.{CliHeader}
 use Rattle.pe_image.specs.declared.growth.Growth.{Growth}
-use Rattle.pe_image.specs.Headers.{headers_of, headers_size, section_alignment, file_alignment, cli_rva}
+use Rattle.pe_image.specs.Headers.{headers_of, headers_size, section_alignment, cli_rva}
 use Rattle.pe_image.specs.Images.{InOrder}
 use Rattle.pe_image.specs.Sections.{section_of, place_in, part, at_rva, sections_of}
-use Rattle.pe_image.specs.Cli.{cli_place, cli_at, cli_of, metadata_of}
-use Rattle.pe_image.specs.Rules.{test, is_il_only, cli_tests, header_tests, Broken}
+use Rattle.pe_image.specs.Cli.{cli_place, cli_of, metadata_of}
+use Rattle.pe_image.specs.Rules.{test, is_il_only, cli_tests, Broken}
 use Rattle.pe_image.specs.Growth.{addresses_end, has_room, new_address, no_room, too_long, growth_of, grown_len, room_in, room_of}
 use Rattle.pe_image.specs.Written.{grown, grown_cli, grown_by, grown_in}
-use Rattle.pe_image.specs.Grown.{new_rva, new_raw_size, IsApart, Grows}
+use Rattle.pe_image.specs.ReadBack.{new_rva, new_raw_size, IsApart, Grows}
 use Rattle.pe_image.proofs.SectionLaws.{none_of}
 use Rattle.pe_image.proofs.RuleLaws.{accepted}
-use Rattle.pe_image.proofs.GrowthLaws.{Room, room_gives}
-use Rattle.pe_image.proofs.WrittenLaws.{Gives, grown_gives, sizes}
+use Rattle.pe_image.proofs.GrowthLaws.{room_gives}
+use Rattle.pe_image.proofs.WrittenLaws.{grown_gives, next_up, sizes}
 use Rattle.pe_image.proofs.AcceptLaws.{not_false}
-use Rattle.pe_image.proofs.SettingLaws.{Setting, Numbers, numbers, headers_pass, Kept, cli_is_grown, cli_passes}
+use Rattle.pe_image.proofs.SettingLaws.{Setting, numbers, headers_pass, Kept, cli_is_grown, cli_passes}
 use Rattle.pe_image.proofs.RvaLaws.{is_found, old_rva, old_tail, new_rva_is, new_tail_is, no_other}
 
 -- ---- the growth
@@ -38,9 +38,6 @@ roomy b a h at cli section out e = go (has_room b h) (ltb (2 ^ 27) (grown_len (g
     go : (p q : Bool) → grown_by (cond p (cond q (Err too_long) (Ok (growth_of b h (length section)))) (Err (no_room a h))) (grown b h at cli section) ≡ Ok out → p ≡ true
     go true q e = refl
     go false q e = absurd cc
-
-next_up : (x y : ℕ) → x ≤ next_multiple_of x y
-next_up x y = omega arith
 
 pub setting : (b : List ℕ) (a : ℕ) (h : Headers) (at : ℕ) (cli : CliHeader) (section out : List ℕ) → InOrder b a h → at ≡ cli_place b h → headers_size b h ≤ at → at + 72 ≤ length b → grown_in b a h at cli section ≡ Ok out → Setting b a h at cli section out (growth_of b h (length section))
 setting b a h at cli section out order place behind here e =

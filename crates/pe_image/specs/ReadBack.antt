@@ -1,8 +1,7 @@
 -- What an image reads back as that has grown by one section: the old RVAs have their bytes, and the new ones those of the section.
-use Rattle.std.specs.Prelude.{◌≡◌, ◌⊎◌, ◌<◌, ◌≤◌, ℕ, ◌+◌, ◌-◌, List, ◌++◌, length, drop, Option, Some, None, Ok}
+use Rattle.std.specs.Prelude.{◌≡◌, ◌⊎◌, ◌<◌, ◌≤◌, ℕ, ◌+◌, ◌-◌, List, ◌++◌, length, drop, Some, None, Ok}
 use Rattle.std.specs.Int.{next_multiple_of}
 use Rattle.cil_base.specs.Refusals.{NoneBroken}
-use Rattle.pe_image.specs.declared.headers.Headers.{Headers}
 use Rattle.pe_image.specs.Headers.{headers_of, file_alignment}
 use Rattle.pe_image.specs.Sections.{part, at_rva, tail_at}
 use Rattle.pe_image.specs.Cli.{cli_of, metadata_of}
