@@ -3,7 +3,8 @@ ghost use Rattle.std.specs.Prelude.{◌≡◌, ℕ, ◌+◌, ◌-◌, ◌%◌, �
 ghost use Rattle.cli_tables.specs.Schema.{columns_of};
 ghost use Rattle.cli_tables.specs.Stream.{count_of};
 ghost use Rattle.cli_tables.specs.Tables.{IsShaped, rows_of};
-ghost use Rattle.cli_tables.specs.Written.{pieces, number_bytes, has_rows, bits_of, heap_bits, header_bytes, count_bytes, row_bytes, table_bytes, filled, stream_to, Fit, Holds};
+ghost use Rattle.cli_tables.specs.Written.{pieces, number_bytes, has_rows, bits_of, heap_bits, header_bytes, count_bytes, row_bytes, table_bytes, stream_to, Fit, Holds};
+ghost use Rattle.cli_heaps.specs.Written.{filled};
 
 use crate::schema::{TABLE_COUNT, columns};
 use crate::sizes::Sizes;
