@@ -10,3 +10,5 @@ pub mod FitLaws
 pub mod ShapeLaws
 pub mod GrowthLaws
 pub mod SetLaws
+pub mod PieceLaws
+pub mod WrittenLaws
