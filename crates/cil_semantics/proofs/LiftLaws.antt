@@ -6,7 +6,7 @@ use Rattle.cil_model.specs.declared.run.Outcome.{Outcome}
 use Rattle.cil_model.specs.declared.run.Outcome.TheVariants as outcome
 use Rattle.cil_semantics.specs.State.{World, Item, State, Next, Goes, Ends}
 use Rattle.cil_semantics.specs.Machine.{and_then, runs}
-use Rattle.cil_semantics.specs.Simulation.{IsPrefix, trace_of, Grows, weight, Match, Simulates, EndsAlike, Lifted, Lifts}
+use Rattle.cil_semantics.specs.Simulation.{IsPrefix, trace_of, Grows, weight, Match, Simulates, EndsAlike, Lifts}
 
 pub prefix_refl : (xs : List Item) → IsPrefix xs xs
 prefix_refl xs = ([], sym (append-nil xs))
@@ -56,7 +56,7 @@ grown go g (suc n) m = inner (λ m1. grown go g n m1) (go m) (g m)
     inner ih (Goes m1) p = prefix_trans m.world.trace m1.world.trace (trace_of (runs go n m1)) p (ih m1)
     inner ih (Ends o w) p = p
 
-grown_from : (go : State → Next) → Grows go → (j n : ℕ) (m : State) → j ≤ n → IsPrefix (trace_of (runs go j m)) (trace_of (runs go n m))
+pub grown_from : (go : State → Next) → Grows go → (j n : ℕ) (m : State) → j ≤ n → IsPrefix (trace_of (runs go j m)) (trace_of (runs go n m))
 grown_from go g j n m le =
     let s : n ≡ j + (n - j) = omega arith in
     subst (λ x. IsPrefix (trace_of (runs go j m)) (trace_of x)) (sym (ap (λ k. runs go k m) s ∙ runs_plus go j (n - j) m)) (inner (runs go j m))

@@ -61,5 +61,6 @@ unfolding
     Rattle.cil_semantics.specs.Unwind.no_body
     Rattle.cil_semantics.specs.Unwind.unwind
     Rattle.cil_model.specs.Texts.units_from
-    types.out-Ty values.out-Value denote.Hole.Carrier.out
+    types.out-Ty values.out-Value denote.Hole.Carrier.out denote.Hole.Carrier.hidden denote.Hole.Carrier.shown
+    Rattle.cil_model.specs.declared.ty.Ty.TheBlock.hidden-the_row-Ty-1 Rattle.cil_model.specs.declared.ty.Ty.TheBlock.shown-the_row-Ty-1
 everything = tt

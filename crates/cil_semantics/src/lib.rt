@@ -1,15 +1,17 @@
 //! What a run of a program means, with and without contracts.
 #![tactic(auto)]
 
+mod behaviour;
 mod more_rows;
 mod parts;
 mod rows;
 mod simulation;
 mod spliced_rows;
 
+pub use behaviour::{Rewriting, same_behaviour, traces_grow};
 pub use more_rows::{
     failure_without_throwing, handlers_of_the_rest, initializers, invariant_under_a_nested_call,
-    reply_that_doesnt_fit, requires_of_an_own_exception, value_at_return,
+    reply_that_doesnt_fit, requires_of_an_own_exception, statics_of_closed_types, value_at_return,
 };
 pub use parts::call_goes_by_parts;
 pub use rows::{
