@@ -3,5 +3,5 @@ pub mod RowLaws
 pub mod MoreRowLaws
 pub mod PartLaws
 pub mod SplicedRowLaws
-pub mod GrowthLaws
+mod GrowthLaws
 mod SameLaws

@@ -117,12 +117,13 @@ InitializerFailsForGood = checked init (with_contract no_effective) 2 [] [] 60 �
 abbrev pub EntryRunsTheInitializer : Type 0
 EntryRunsTheInitializer = checked init (with_contract no_effective) 0 [] [] 60 ≡ Some (outcome.Thrown 2 (codes "System.TypeInitializationException"), [])
 
--- ---- class T<X>: Set(int32 n) stores n in a static field. Go(): T<int32>.Set(5); T<string>.Set(7); returns T<int32>'s field
+-- ---- class T<X>: Set(int32 n) stores n in a static field. Go(): T<int32>.Set(5); T<string>.Set(7); returns 10 times the one's field and the other's
 
 abbrev pub generic_rows : List TokenRow
 generic_rows =
     record { assembly = 0; token = field_token 0; meaning = OfField (ty.Inst 0 (ty.Var 0 ∷ [])) 0 }
     ∷ record { assembly = 0; token = field_token 1; meaning = OfField (ty.Inst 0 (int_ty ∷ [])) 0 }
+    ∷ record { assembly = 0; token = field_token 2; meaning = OfField (ty.Inst 0 (string_ty ∷ [])) 0 }
     ∷ record { assembly = 0; token = method_token 8; meaning = OfMethod (ty.Inst 0 (int_ty ∷ [])) 0 [] }
     ∷ record { assembly = 0; token = method_token 9; meaning = OfMethod (ty.Inst 0 (string_ty ∷ [])) 0 [] } ∷ []
 
@@ -131,13 +132,13 @@ generic =
     let q =
     with_field static_int generic_rows (sample
     (method 0 (codes "Set") (int_ty ∷ []) void_ty (body (ldarg 0 ∷ instr 0x80 (Tok 0 (field_token 0)) ∷ ret ∷ []) [] None)
-    ∷ method 2 (codes "Go") [] int_ty (body (int 5 ∷ call_own 8 ∷ int 7 ∷ call_own 9 ∷ instr 0x7E (Tok 0 (field_token 1)) ∷ ret ∷ []) [] None) ∷ []))
+    ∷ method 2 (codes "Go") [] int_ty (body (int 5 ∷ call_own 8 ∷ int 7 ∷ call_own 9 ∷ instr 0x7E (Tok 0 (field_token 1)) ∷ int 10 ∷ bare 0x5A ∷ instr 0x7E (Tok 0 (field_token 2)) ∷ bare 0x58 ∷ ret ∷ []) [] None) ∷ []))
     in
     record q { types = record (class_with (codes "T") (0 ∷ [])) { fields = 0 ∷ []; generics = 1 } ∷ outside_class contract_name ∷ class_with (codes "U") (1 ∷ []) ∷ [] }
 
 -- each closed type has a field of its own
 abbrev pub ClosedTypesHaveTheirOwnStatics : Type 0
-ClosedTypesHaveTheirOwnStatics = checked generic (with_contract no_effective) 1 [] [] 60 ≡ Some (returns 5, [])
+ClosedTypesHaveTheirOwnStatics = checked generic (with_contract no_effective) 1 [] [] 60 ≡ Some (returns 57, [])
 
 -- ---- class C: Invariant(P(0) == 0); public P(x): Requires(x > 0); return x
 

@@ -123,22 +123,25 @@ pub record Same (p : Program) (k : Contracts) (p' : Program) : Type 0 where
 abbrev pub plain_step : Program → State → Next
 plain_step p s = step p no_contracts (numbers_past p) s
 
--- Both runs of a method begin, and the plain one comes to a related state.
-pub record BeginsAlike (p : Program) (k : Contracts) (p' : Program) (R : State → State → Type 0) (f : State → ℕ) (m : ℕ) (args : List Value) (rs : List Reply) : Type 0 where
-  pub first : State
-  pub second : State
+-- the plain run comes from a state to one that goes with the first in few steps
+pub record Meets (p : Program) (k : Contracts) (p' : Program) (R : State → State → Type 0) (f : State → ℕ) (first second : State) : Type 0 where
   pub met : State
   pub steps : ℕ
-  pub begins : start p k m args rs ≡ Goes first
-  pub begins_too : start p' no_contracts m args rs ≡ Goes second
   pub meets : runs (plain_step p') steps second ≡ Goes met
   pub related : R first met
   pub within : steps + f first ≤ bound_of k p
+
+-- both runs begin, or both are over at once in the same way
+abbrev pub BeginsAlike : (p : Program) (k : Contracts) (p' : Program) (R : State → State → Type 0) (f : State → ℕ) → Next → Next → Type 0
+BeginsAlike p k p' R f (Goes s) (Goes s') = Meets p k p' R f s s'
+BeginsAlike p k p' R f (Ends o w) (Ends o' w') = (o ≡ o') × SameWorld p w w'
+BeginsAlike p k p' R f (Goes s) (Ends o' w') = ⊥
+BeginsAlike p k p' R f (Ends o w) (Goes s') = ⊥
 
 -- From each entry on the plain run of the second program answers each step of the first program's run with contracts; long answers are paid by what a state has laid by.
 pub record AnswersSteps (p : Program) (k : Contracts) (p' : Program) (g : Numbers) (R : State → State → Type 0) (f : State → ℕ) : Type 0 where
   pub identities : KeepsIdentities p p'
   pub added : NamesAdded p p' g
-  pub entry : (m : ℕ) (args : List Value) (rs : List Reply) → IsEntry p m args → BeginsAlike p k p' R f m args rs
+  pub entry : (m : ℕ) (args : List Value) (rs : List Reply) → IsEntry p m args → BeginsAlike p k p' R f (start p k m args rs) (start p' no_contracts m args rs)
   pub same_trace : (s s' : State) → R s s' → s.world.trace ≡ s'.world.trace
   pub answer : (s s' : State) → R s s' → (j : ℕ) × (suc j + weight f (step p k g s) ≤ bound_of k p + f s) × Match (SameWorld p) R (step p k g s) (runs (plain_step p') (suc j) s')
