@@ -108,20 +108,22 @@ once_read meta pre at (suc n) all below once = go (is_whole_header meta at) (λ 
         → Each (λ s. is_repeated meta s ≡ false) (cond b (stream_at meta at ∷ streams_from meta (header_end meta at) n) [])
         → Once (map name_of pre) (map name_of (cond b (stream_at meta at ∷ streams_from meta (header_end meta at) n) []))
     go false rest e each = tt
-    go true rest e each =
-        (λ known. sym (found_among (stream_at meta at).name pre) ∙ same_header meta pre (stream_at meta at ∷ streams_from meta (header_end meta at) n) (stream_at meta at) e below each.0 known,
-            subst (λ (l : List (List ℕ)). Once l (map name_of (streams_from meta (header_end meta at) n))) (names_more pre (stream_at meta at))
-            (rest (e ∙ sym (append_assoc pre (stream_at meta at ∷ []) (streams_from meta (header_end meta at) n)))
-                (each_append (λ t. t.header < header_end meta at) pre (stream_at meta at) (below_more pre at (header_end meta at) (omega arith) below) (omega arith))
-                each.1))
+    go true rest e each = (
+      λ known. sym (found_among (stream_at meta at).name pre) ∙ same_header meta pre (stream_at meta at ∷ streams_from meta (header_end meta at) n) (stream_at meta at) e below each.0 known,
+      subst (λ (l : List (List ℕ)). Once l (map name_of (streams_from meta (header_end meta at) n))) (names_more pre (stream_at meta at))
+          (rest (e ∙ sym (append_assoc pre (stream_at meta at ∷ []) (streams_from meta (header_end meta at) n)))
+          (each_append (λ t. t.header < header_end meta at) pre (stream_at meta at) (below_more pre at (header_end meta at) (omega arith) below) (omega arith))
+          each.1),
+    )
 
 -- ---- in the new root
 
 pub not_repeated : (meta : List ℕ) (pre ss : List Stream) → streams meta ≡ pre ++ ss → Once (map name_of pre) (map name_of ss) → Each (λ s. is_repeated meta s ≡ false) ss
 not_repeated meta pre [] all once = tt
-not_repeated meta pre (s ∷ ss) all once =
-    (here (is_known s) refl,
-        not_repeated meta (pre ++ s ∷ []) ss (all ∙ sym (append_assoc pre (s ∷ []) ss)) (subst (λ (l : List (List ℕ)). Once l (map name_of ss)) (sym (names_more pre s)) once.1))
+not_repeated meta pre (s ∷ ss) all once = (
+  here (is_known s) refl,
+  not_repeated meta (pre ++ s ∷ []) ss (all ∙ sym (append_assoc pre (s ∷ []) ss)) (subst (λ (l : List (List ℕ)). Once l (map name_of ss)) (sym (names_more pre s)) once.1),
+)
   where
     first : (o : Option Stream) → find (is_named s.name) pre ≡ o → is_some o ≡ false → first_named meta s.name ≡ Some s
     first (Some f) e h = absurd cc

@@ -44,9 +44,13 @@ once_three seen true false false k f g h = (λ known. g refl, (λ known. among_a
 once_three seen false true true k f g h = (λ known. f refl, tt)
 once_three seen false true false k f g h = (λ known. f refl, (λ known. among_append (codes "#Blob") seen (codes "#Strings" ∷ []) (h refl) refl, tt))
 once_three seen false false true k f g h = (λ known. f refl, (λ known. among_append (codes "#US") seen (codes "#Strings" ∷ []) (g refl) refl, tt))
-once_three seen false false false k f g h =
-    (λ known. f refl, (λ known. among_append (codes "#US") seen (codes "#Strings" ∷ []) (g refl) refl,
-            (λ known. among_append (codes "#Blob") (seen ++ codes "#Strings" ∷ []) (codes "#US" ∷ []) (among_append (codes "#Blob") seen (codes "#Strings" ∷ []) (h refl) refl) refl, tt)))
+once_three seen false false false k f g h = (
+  λ known. f refl,
+  (
+    λ known. among_append (codes "#US") seen (codes "#Strings" ∷ []) (g refl) refl,
+    (λ known. among_append (codes "#Blob") (seen ++ codes "#Strings" ∷ []) (codes "#US" ∷ []) (among_append (codes "#Blob") seen (codes "#Strings" ∷ []) (h refl) refl) refl, tt),
+  ),
+)
 
 -- ---- rules
 
@@ -61,13 +65,15 @@ new_at old k s name e = ap (λ (n : List ℕ). new_bytes old k (record { header 
 
 pub fine_old : (old : List ℕ) (k : Known) (ss : List Stream) → Whole k → Each (Passes old) ss → Each (λ s. list_any is_zero s.name ≡ false) ss → EachPart Fine (map (old_part old k) ss)
 fine_old old k [] w all ends = tt
-fine_old old k (s ∷ ss) w all ends =
-    (record {
-        ended = ends.0;
-        plain = all.0.plain;
-        tables = λ h. subst (λ (l : List ℕ). 24 + 4 * count_ones (num l 8 8) ≤ length l) (sym (new_at old k s (codes "#~") h)) w.tables;
-        users = λ h. subst (λ (l : List ℕ). is_users 0 (drop 1 l) ≡ true) (sym (new_at old k s (codes "#US") h)) w.users;
-    }, fine_old old k ss w all.1 ends.1)
+fine_old old k (s ∷ ss) w all ends = (
+  record {
+    ended = ends.0;
+    plain = all.0.plain;
+    tables = λ h. subst (λ (l : List ℕ). 24 + 4 * count_ones (num l 8 8) ≤ length l) (sym (new_at old k s (codes "#~") h)) w.tables;
+    users = λ h. subst (λ (l : List ℕ). is_users 0 (drop 1 l) ≡ true) (sym (new_at old k s (codes "#US") h)) w.users;
+  },
+  fine_old old k ss w all.1 ends.1,
+)
 
 different : false ≡ true → ⊥
 different h = cc
@@ -202,9 +208,10 @@ known_word k w false false false false false z h = absurd (different h)
 
 pub words_old : (old : List ℕ) (k : Known) (ss : List Stream) → Words k → EachPart IsWord (map (old_part old k) ss)
 words_old old k [] w = tt
-words_old old k (s ∷ ss) w =
-    (λ h. known_word k w (is_named (codes "#~") s) (is_named (codes "#Strings") s) (is_named (codes "#US") s) (is_named (codes "#GUID") s) (is_named (codes "#Blob") s) (stream_bytes old s) h,
-        words_old old k ss w)
+words_old old k (s ∷ ss) w = (
+  λ h. known_word k w (is_named (codes "#~") s) (is_named (codes "#Strings") s) (is_named (codes "#US") s) (is_named (codes "#GUID") s) (is_named (codes "#Blob") s) (stream_bytes old s) h,
+  words_old old k ss w,
+)
 
 maybe_word : (b : Bool) (name bytes : List ℕ) → length bytes % 4 ≡ 0 → EachPart IsWord (maybe b name bytes)
 maybe_word true name bytes h = tt
@@ -259,7 +266,7 @@ unknown_old old k (s ∷ ss) = go (is_known s) refl (unknown_old old k ss)
     go false e rest =
         ap₂ (λ (p : Part) (l : List Part). p ∷ l)
         (part_same s.name s.name (new_bytes old k s) (stream_bytes old s) refl
-            (own_bytes (is_named (codes "#~") s) (is_named (codes "#Strings") s) (is_named (codes "#US") s) (is_named (codes "#GUID") s) (is_named (codes "#Blob") s) k.tables k.strings k.users k.guids k.blobs (stream_bytes old s) e)) rest
+        (own_bytes (is_named (codes "#~") s) (is_named (codes "#Strings") s) (is_named (codes "#US") s) (is_named (codes "#GUID") s) (is_named (codes "#Blob") s) k.tables k.strings k.users k.guids k.blobs (stream_bytes old s) e)) rest
 
 plain_three : (a b c : Bool) (k : Known) → filter is_plain (three a b c k) ≡ []
 plain_three true true true k = refl

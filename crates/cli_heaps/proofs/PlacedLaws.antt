@@ -51,7 +51,7 @@ streams_placed meta pre rest h o (p ∷ ps) e len names short =
     step meta h (h + 8 + name_width (length p.name)) (length ps) (record { header = h; offset = o; size = length p.bytes; name = p.name }) (placed (h + 8 + name_width (length p.name)) next ps)
     here.end_is (omega (arith, here.end_is, here.whole)) here.stream_is
     (streams_placed meta (pre ++ (four_bytes o ++ (four_bytes (length p.bytes) ++ ended p.name))) rest (h + 8 + name_width (length p.name)) next ps
-        (e ∙ split_behind pre (four_bytes o) (four_bytes (length p.bytes)) (ended p.name) (headers next ps) rest) behind names.1 (omega (arith, short, total)))
+    (e ∙ split_behind pre (four_bytes o) (four_bytes (length p.bytes)) (ended p.name) (headers next ps) rest) behind names.1 (omega (arith, short, total)))
 
 pub length-headers : (o : ℕ) (ps : List Part) → length (headers o ps) ≡ headers_size ps
 length-headers o [] = refl
@@ -96,11 +96,13 @@ parts_placed meta pre h o (p ∷ ps) e len word =
       size_is = refl;
       within = omega (arith, long);
       aligned = word;
-    } in
-    (here, parts_placed meta (pre ++ filled p.bytes) (h + 8 + name_width (length p.name)) next ps
-        (e ∙ sym (append_assoc pre (filled p.bytes) (bodies ps)))
-        (omega (arith, length-append pre (filled p.bytes), len))
-        (omega (arith, word, filled_word p.bytes)))
+    } in (
+      here,
+      parts_placed meta (pre ++ filled p.bytes) (h + 8 + name_width (length p.name)) next ps
+          (e ∙ sym (append_assoc pre (filled p.bytes) (bodies ps)))
+          (omega (arith, length-append pre (filled p.bytes), len))
+          (omega (arith, word, filled_word p.bytes)),
+    )
 
 -- the names and the bytes of the streams
 abbrev pub content : List ℕ → Stream → Part

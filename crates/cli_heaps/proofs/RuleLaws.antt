@@ -58,9 +58,9 @@ none_fails meta a at (suc n) e all = go (is_whole_header meta at) (λ k l. none_
         none_more (test M1 a (stream_at meta at).header (is_cut_stream meta (stream_at meta at)))
         (test M2 a (stream_at meta at).header (is_repeated meta (stream_at meta at)) ∷ test M3 a (stream_at meta at).header (is_named (codes "#-") (stream_at meta at)) ∷ header_tests meta a (header_end meta at) n) l.0.cut
         (none_more (test M2 a (stream_at meta at).header (is_repeated meta (stream_at meta at)))
-            (test M3 a (stream_at meta at).header (is_named (codes "#-") (stream_at meta at)) ∷ header_tests meta a (header_end meta at) n) l.0.once
-            (none_more (test M3 a (stream_at meta at).header (is_named (codes "#-") (stream_at meta at))) (header_tests meta a (header_end meta at) n) l.0.plain
-                (rest (omega (arith, k)) l.1)))
+        (test M3 a (stream_at meta at).header (is_named (codes "#-") (stream_at meta at)) ∷ header_tests meta a (header_end meta at) n) l.0.once
+        (none_more (test M3 a (stream_at meta at).header (is_named (codes "#-") (stream_at meta at))) (header_tests meta a (header_end meta at) n) l.0.plain
+        (rest (omega (arith, k)) l.1)))
 
 -- ---- a part that breaks no rule as a stream
 

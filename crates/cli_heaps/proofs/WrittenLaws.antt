@@ -120,8 +120,8 @@ rooted old new g t a none grew keeps long e few short =
     once_read old [] (first_header old) (stream_count old) refl tt (each_map (Passes old) (λ s. is_repeated old s ≡ false) (streams old) (λ s p. p.once) all) in
     let once_new : Once [] (map name_of (streams new)) =
     subst (Once []) (sym names) (once_append [] (map name_of (streams old)) (map part_name (more old g t)) once_old
-        (once_three (map name_of (streams old)) (kept old (codes "#Strings") g.strings.added) (kept old (codes "#US") g.users.added) (kept old (codes "#Blob") g.blobs.added) (grown_known old g t)
-            (absent old (codes "#Strings") g.strings.added) (absent old (codes "#US") g.users.added) (absent old (codes "#Blob") g.blobs.added))) in
+    (once_three (map name_of (streams old)) (kept old (codes "#Strings") g.strings.added) (kept old (codes "#US") g.users.added) (kept old (codes "#Blob") g.blobs.added) (grown_known old g t)
+    (absent old (codes "#Strings") g.strings.added) (absent old (codes "#US") g.users.added) (absent old (codes "#Blob") g.blobs.added))) in
     record {
       reads = reads;
       passes = each_rule new (streams new) (parts old g t) reads.parts fine (not_repeated new [] (streams new) refl once_new);

@@ -9,19 +9,13 @@ ghost use Rattle.cli_heaps.specs.Growth.{Growths, full, grown_length, KeepsUsers
 ghost use Rattle.cli_heaps.specs.Written.{zeros, fill, filled, two_bytes, four_bytes, Part, Known, grown_known, new_bytes, old_part, missing, all_missing, parts, ended, headers, headers_size, bodies, headers_end, first_body, written, limit_test, limits, limit_tests, GrewFrom, IsWritten, EntriesRead};
 
 use crate::builder::HeapBuilder;
-use crate::grown::full;
+use crate::grown::{HEAP_LIMIT, USER_LIMIT, full};
 use crate::heaps::Heaps;
 use crate::streams::{Stream, first_header};
 use cil_base::{Bytes, Fault, Refusal};
 use sqlite_items::Items;
 use std::alloc::{AllocError, Global};
 use std::marker::Model;
-
-/// The most bytes of `#Strings`, of `#Blob` and of `#GUID`.
-const HEAP_LIMIT: u32 = 0x1000_0000;
-
-/// The most bytes of `#US`.
-const USER_LIMIT: u32 = 0x100_0000;
 
 /// The most streams.
 const STREAM_LIMIT: u32 = 0xFFFF;
@@ -165,7 +159,14 @@ fn all_parts<'a>(
 {
     let mut parts = old_parts(alloc, heaps, grown, tables)?;
     let added = grown.strings_added();
-    push_missing(&mut parts, alloc, heaps, b"#Strings", heaps.strings(), added)?;
+    push_missing(
+        &mut parts,
+        alloc,
+        heaps,
+        b"#Strings",
+        heaps.strings(),
+        added,
+    )?;
     let added = grown.users_added();
     push_missing(&mut parts, alloc, heaps, b"#US", heaps.users(), added)?;
     let added = grown.blobs_added();
@@ -227,11 +228,7 @@ fn push_header(out: &mut Vec<u8>, at: u32, part: &Part<'_>) -> Result<(), AllocE
 
 /// The stream headers, and where the streams end of which the first begins at `start`. 2^32 is out
 /// of memory.
-fn push_headers(
-    out: &mut Vec<u8>,
-    start: usize,
-    parts: &[Part<'_>],
-) -> Result<usize, AllocError>
+fn push_headers(out: &mut Vec<u8>, start: usize, parts: &[Part<'_>]) -> Result<usize, AllocError>
     requires { start < 2 ^ 32 }
     ensures bytes { OnOk result (out.new.items ≡ out.old.items ++ headers start parts.now) }
     ensures end { IfOk result (λ n. n ≡ start + length (bodies parts.now)) }

@@ -23,8 +23,8 @@ is c =
     (subst (λ (l : List ℕ). first_body l c.as_slice.result.now + length (bodies c.as_slice.result.now) < 2 ^ 32) c.metadata.ensures.bytes c.in_ok-bytes.ensures.short) in
     let few : length (parts c.args.heaps.now.bytes c.args.grown.now c.args.tables.now) < 2 ^ 16 =
     (let n : c.len.result < 2 ^ 16 = few_streams old g c.len.result (sym c.in_default.ensures) in
-        let count : length c.as_slice.result.now ≡ length (parts c.args.heaps.now.bytes c.args.grown.now c.args.tables.now) = ap length all in
-        omega (arith, n, c.len.ensures, c.as_slice.ensures.len, count)) in
+    let count : length c.as_slice.result.now ≡ length (parts c.args.heaps.now.bytes c.args.grown.now c.args.tables.now) = ap length all in
+    omega (arith, n, c.len.ensures, c.as_slice.ensures.len, count)) in
     let none : NoneBroken (Broken c.args.heaps.now.bytes c.args.heaps.now.assembly) = c.metadata.ensures.accepted in
     is_written old c.from_vec.result g t c.args.heaps.now.assembly none short c.requires.full_words
     (rooted old c.from_vec.result g t c.args.heaps.now.assembly none c.requires.grew c.in_ok-parts.ensures.users c.requires.whole bytes few short)
