@@ -1,8 +1,9 @@
 -- Tables that are written, read back.
-use Rattle.std.proofs.Common.{◌≡◌, ◌⊎◌, ℕ, zero, suc, ◌+◌, ◌-◌, ◌*◌, ◌/◌, ◌%◌, ◌^◌, ◌<◌, ◌≤◌, eqb, ◌&&◌, ◌||◌, not, Bool, true, false, cond, List, [], ◌∷◌, ◌++◌, length, get_or, take, drop, map, replicate, refl, sym, ap, ◌∙◌, subst, inl, inr, arith, add-one, append_assoc}
+use Rattle.std.proofs.Common.{◌≡◌, ◌⊎◌, ℕ, zero, suc, ◌+◌, ◌-◌, ◌*◌, ◌/◌, ◌%◌, ◌^◌, ◌<◌, ◌≤◌, eqb, ltb, ◌&&◌, ◌||◌, not, Bool, true, false, cond, List, [], ◌∷◌, ◌++◌, length, get_or, take, drop, map, replicate, refl, sym, ap, ◌∙◌, subst, inl, inr, arith, add-one, append_assoc}
 use Rattle.std.specs.Prelude.{sum_by, Result, Ok, Err, IfOk, OnOk}
 use Rattle.std.proofs.lemmas.Result.{IfOk-weaker}
-use Rattle.std.specs.List.{range_with_len}
+use Rattle.std.specs.List.{list_all, range_with_len}
+use Rattle.std.proofs.Math.Nat.{pow-suc}
 use Rattle.std.proofs.lemmas.List.{append-nil, length-append, length-drop, length-take-le, length-replicate, take_all, get_or_past, nil_from_length}
 use Rattle.std.proofs.lemmas.List.FromFn.{get_or-map-range_with_len, length-map-range_with_len}
 use Rattle.std.proofs.lemmas.Bool.{cases_lt, cases_Bool, ltb-true, ltb-false, eq-eqb, ne_eqb}
@@ -22,12 +23,12 @@ use Rattle.cli_tables.specs.Stream.{has_bit, has_table, tables_below, row_count,
 use Rattle.cli_tables.specs.Layout.{row_end}
 use Rattle.cli_tables.specs.TableRules.{has_unread, is_unread, is_one_assembly, HeaderBroken}
 use Rattle.cli_tables.specs.Tables.{column_of, rows_of, rows_in, limit_of, IsShaped, AreIn}
-use Rattle.cli_tables.specs.Written.{pieces, number_bytes, counts_to, has_rows, bits_of, heap_bits, header_bytes, count_bytes, cell_bytes, row_bytes, table_bytes, stream_to, Fit, Holds, is_index, IndexesFit, NoneFull, IsOverfull, AreOfOne, sizes_to, stream_in}
+use Rattle.cli_tables.specs.Written.{pieces, number_bytes, counts_to, has_rows, bits_of, heap_bits, header_bytes, count_bytes, cell_bytes, row_bytes, table_bytes, stream_to, Fit, Holds, is_index, column_fits, table_fits, indexes_fit, NoneFull, IsOverfull, AreOfOne, sizes_to, stream_in}
 use Rattle.cli_tables.proofs.StreamLaws.{byte_at, counts_all, start_ones}
 use Rattle.cli_tables.proofs.LayoutLaws.{offset_more}
 use Rattle.cli_tables.proofs.HeaderLaws.{none_range}
 use Rattle.cli_tables.proofs.ShapeLaws.{no_columns, is_read, cells_match}
-use Rattle.cli_tables.proofs.PieceLaws.{IsAt, pieces_none, pieces_suc, at_first, at_last, at_in, at_moved, at_equal, at_within, at_piece, at_number, at_byte, take_at, length_number, bits_small, bits_bit}
+use Rattle.cli_tables.proofs.PieceLaws.{IsAt, pieces_none, pieces_suc, at_first, at_last, at_in, at_moved, at_equal, at_within, at_piece, at_number, at_byte, take_at, all_at, all_range, length_number, bits_small, bits_bit}
 
 -- ---- counts
 
@@ -365,8 +366,36 @@ cell_fits s (Row t) v small h = h refl
 cell_fits s (FirstRow t) v small h = h refl
 cell_fits s (Coded k) v small h = h refl
 
-pub fit_of : (meta : List ℕ) (grown : Growths) (ts : List (List (List ℕ))) → IsShaped ts → IndexesFit (sizes_to meta grown ts) ts → Fit (sizes_to meta grown ts) ts
-fit_of meta grown ts shape h = record { counts = refl; cells = λ t c k. cell_fits (sizes_to meta grown ts) (kind_of t c) (get_or (column_of ts t c) k 0) (shape.fits t c k) (h t c k) }
+some_power : (w : ℕ) → 0 < 256 ^ w
+some_power zero = omega arith
+some_power (suc w) = omega (arith, some_power w, pow-suc 256 w)
+
+-- behind the end there is no number
+past_fits : (s : Sizes) (ts : List (List (List ℕ))) (t c k : ℕ) → length (column_of ts t c) ≤ k → get_or (column_of ts t c) k 0 < 256 ^ width_of s (kind_of t c)
+past_fits s ts t c k past = omega (arith, get_or_past (column_of ts t c) k 0 past, some_power (width_of s (kind_of t c)))
+
+here_fits : (s : Sizes) (ts : List (List (List ℕ))) (t c k : ℕ) → column_fits s ts t c ≡ true → k < length (column_of ts t c) → get_or (column_of ts t c) k 0 < limit_of (kind_of t c) → get_or (column_of ts t c) k 0 < 256 ^ width_of s (kind_of t c)
+here_fits s ts t c k h lt small =
+    cell_fits s (kind_of t c) (get_or (column_of ts t c) k 0) small (λ index.
+    ltb-true (get_or (column_of ts t c) k 0) (256 ^ width_of s (kind_of t c))
+    (all_at (λ (v : ℕ). ltb v (256 ^ width_of s (kind_of t c))) (column_of ts t c) k (sym (ap (λ (b : Bool). not b || list_all (λ (v : ℕ). ltb v (256 ^ width_of s (kind_of t c))) (column_of ts t c)) index) ∙ h) lt))
+
+pub all_fit : (s : Sizes) (ts : List (List (List ℕ))) (t c k : ℕ) → IsShaped ts → indexes_fit s ts ≡ true → get_or (column_of ts t c) k 0 < 256 ^ width_of s (kind_of t c)
+unfolding indexes_fit
+all_fit s ts t c k shape h = elim (cases_lt k (length (column_of ts t c))) [
+  | inl lt ↦ elim (cases_lt c (length (columns_of t))) [
+    | inl here ↦ here_fits s ts t c k (all_range (column_fits s ts t) (length (columns_of t)) c (all_range (table_fits s ts) 45 t h (is_read t c here)) here) lt (shape.fits t c k)
+    | inr out ↦
+        let none : length (column_of ts t c) ≡ 0 = ap (λ (l : List ℕ). length l) (get_or_past (get_or ts t []) c [] (omega (arith, out, shape.columns t))) in
+        absurd (omega (arith, none, lt))
+  ]
+  | inr past ↦ past_fits s ts t c k past
+]
+
+pub fit_of : (meta : List ℕ) (grown : Growths) (ts us : List (List (List ℕ))) (s : Sizes) → IsShaped ts → indexes_fit (sizes_to meta grown ts) ts ≡ true → s ≡ sizes_to meta grown ts → us ≡ ts → Fit s us
+fit_of meta grown ts us s shape h e f =
+    subst (λ (z : Sizes). Fit z us) (sym e) (subst (λ (l : List (List (List ℕ))). Fit (sizes_to meta grown ts) l) (sym f)
+    (record { counts = refl; cells = λ t c k. all_fit (sizes_to meta grown ts) ts t c k shape h }))
 
 pub none_full : (ts : List (List (List ℕ))) → IsShaped ts → ((t : ℕ) → t < 45 → rows_of ts t ≤ 2 ^ 24 - 1) → NoneFull ts
 none_full ts shape h t = elim (cases_lt t 45) [

@@ -1,6 +1,6 @@
 -- The `#~` stream that tables are written to (ECMA-335, II.24.2.6).
-use Rattle.std.specs.Prelude.{◌≡◌, ℕ, zero, suc, ◌+◌, ◌-◌, ◌*◌, ◌/◌, ◌%◌, ◌^◌, ◌<◌, ◌≤◌, count_ones, Bool, true, false, nat_lt, List, [], ◌∷◌, ◌++◌, map, length, take, drop, get_or, if◌then◌else◌}
-use Rattle.std.specs.List.{flat_map, range_with_len}
+use Rattle.std.specs.Prelude.{◌≡◌, ℕ, zero, suc, ◌+◌, ◌-◌, ◌*◌, ◌/◌, ◌%◌, ◌^◌, ◌<◌, ◌≤◌, count_ones, Bool, true, false, not, ◌||◌, nat_lt, List, [], ◌∷◌, ◌++◌, map, length, take, drop, get_or, if◌then◌else◌}
+use Rattle.std.specs.List.{flat_map, list_all, range_with_len}
 use Rattle.byteorder.specs.Endian.{little_bytes}
 use Rattle.cil_base.specs.Numbers.{num}
 use Rattle.cil_base.specs.declared.refusal.Refusal.{Refusal}
@@ -112,9 +112,15 @@ is_index U16 = false
 is_index U32 = false
 is_index _ = true
 
+abbrev pub column_fits : Sizes → List (List (List ℕ)) → ℕ → ℕ → Bool
+column_fits sizes tables table column = not (is_index (kind_of table column)) || list_all (λ value. nat_lt value (256 ^ width_of sizes (kind_of table column))) (column_of tables table column)
+
+abbrev pub table_fits : Sizes → List (List (List ℕ)) → ℕ → Bool
+table_fits sizes tables table = list_all (column_fits sizes tables table) (range_with_len 0 (length (columns_of table)))
+
 -- each index fits the width that its column has
-abbrev pub IndexesFit : Sizes → List (List (List ℕ)) → Type 0
-IndexesFit sizes tables = (table column k : ℕ) → is_index (kind_of table column) ≡ true → get_or (column_of tables table column) k 0 < 256 ^ width_of sizes (kind_of table column)
+unfoldable pub indexes_fit : Sizes → List (List (List ℕ)) → Bool
+indexes_fit sizes tables = list_all (table_fits sizes tables) (range_with_len 0 45)
 
 -- no table has more rows than a written one may have
 abbrev pub NoneFull : List (List (List ℕ)) → Type 0

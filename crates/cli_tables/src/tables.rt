@@ -8,15 +8,15 @@ ghost use Rattle.cli_tables.specs.Schema.{columns_of};
 ghost use Rattle.cli_tables.specs.Tables.{column_of, rows_of, cell_of, HasCell, IsShaped, AreIn, IsRow, IsAppended, IsSet, fits_column, rows_with};
 ghost use Rattle.cli_tables.specs.Stream.{kind_of};
 ghost use Rattle.cli_tables.specs.Growth.{table_full};
-ghost use Rattle.cli_tables.specs.Written.{counts_to, is_many, sizes_to, stream_in, IndexesFit, NoneFull, IsOverfull, AreOfOne, Holds};
+ghost use Rattle.cli_tables.specs.Written.{counts_to, is_many, sizes_to, stream_in, column_fits, table_fits, indexes_fit, NoneFull, IsOverfull, AreOfOne, Holds};
 ghost use Rattle.cli_heaps.specs.Written.{filled, GrewFrom, IsWritten, EntriesRead, limit_tests};
 
 use crate::header::first_in_header;
 use crate::reading::read_tables;
-use crate::schema::TABLE_COUNT;
+use crate::schema::{TABLE_COUNT, columns};
 use crate::sizes::{Sizes, read_sizes, rows_start_of};
 use crate::table::Table;
-use crate::written::write_stream;
+use crate::written::{fits_width, is_index, write_stream};
 use cil_base::{Bytes, Fault, Refusal, Rule, U32s};
 use cli_heaps::{HeapBuilder, Heaps, write_metadata};
 use lane_cols::places_of;
@@ -153,7 +153,7 @@ impl Tables {
         grown: &HeapBuilder,
     ) -> Result<Bytes, Fault>
         requires grew { GrewFrom heaps.now.bytes grown.now }
-        requires fit { IndexesFit (sizes_to heaps.now.bytes grown.now self.now) self.now }
+        requires fit { indexes_fit (sizes_to heaps.now.bytes grown.now self.now) self.now ≡ true }
         ensures written { IfOk result (IsWritten heaps.now.bytes grown.now (stream_in heaps.now.bytes grown.now self.now)) }
         ensures entries { IfOk result (EntriesRead heaps.now.bytes grown.now) }
         ensures cells { IfOk result (λ new. AreIn (tables new) self.now) }
@@ -170,6 +170,32 @@ impl Tables {
         let old = heaps.tables();
         let stream = write_stream(alloc, old, &sizes, self.tables.as_slice())?;
         write_metadata(alloc, heaps, grown, &stream)
+    }
+
+    /// Whether each index fits the width that its column has in what `write` makes.
+    #[tactic(auto, unfolding(crate::specs::Written::indexes_fit))]
+    pub fn fits(&self, heaps: &Heaps<'_>, grown: &HeapBuilder) -> bool
+        ensures { result ≡ indexes_fit (sizes_to heaps.now.bytes grown.now self.now) self.now }
+    {
+        let sizes = self.written_sizes(heaps, grown);
+        (0..TABLE_COUNT as u8).all(|table| self.table_fits(&sizes, table))
+    }
+
+    fn table_fits(&self, sizes: &Sizes, table: u8) -> bool
+        ensures { result ≡ table_fits sizes.now self.now table }
+    {
+        (0..columns(table).len() as u8).all(|column| self.column_fits(sizes, table, column))
+    }
+
+    fn column_fits(&self, sizes: &Sizes, table: u8, column: u8) -> bool
+        ensures { result ≡ column_fits sizes.now self.now table column }
+    {
+        match columns(table).get(column as usize) {
+            None => true,
+            Some(kind) => {
+                !is_index(*kind) || fits_width(self.column(table, column), sizes.width(*kind))
+            }
+        }
     }
 
     /// A table that has more rows than a written one may have.
