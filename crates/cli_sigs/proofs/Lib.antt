@@ -8,3 +8,4 @@ pub mod LeafLaws
 pub mod BlobLaws
 pub mod KindLaws
 pub mod AttributeLaws
+pub mod PrintLaws

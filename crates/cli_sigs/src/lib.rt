@@ -6,6 +6,7 @@ mod attribute;
 mod blobs;
 mod elements;
 mod numbers;
+mod printing;
 mod reading;
 #[cfg(test)]
 mod tests;
@@ -17,4 +18,5 @@ pub use blobs::{
     read_type_spec,
 };
 pub use elements::{Element, MethodKind, Slot};
+pub use printing::{print_locals, print_method_sig, print_method_spec, print_type};
 pub use types::{MethodSig, SigTy, SigTys};
