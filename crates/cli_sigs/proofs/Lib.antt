@@ -9,3 +9,4 @@ pub mod BlobLaws
 pub mod KindLaws
 pub mod AttributeLaws
 pub mod PrintLaws
+pub mod ValidLaws

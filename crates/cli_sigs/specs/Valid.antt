@@ -8,6 +8,7 @@ use Rattle.cli_sigs.specs.declared.elements.MethodKind.TheVariants.{Method, Poin
 use Rattle.cli_sigs.specs.declared.types.SigTy.{SigTy, out-SigTy}
 use Rattle.cli_sigs.specs.declared.types.SigTy.TheOpen.{SigTy-F}
 use Rattle.cli_sigs.specs.declared.types.MethodSig.{MethodSig, out-MethodSig}
+use Rattle.cli_sigs.specs.declared.types.MethodSig.{MethodSig-F}
 use Rattle.cli_sigs.specs.Elements.{is_prim, may_stand, allows_by_ref, allows_pinned, kept}
 use Rattle.cli_sigs.specs.Methods.{may_begin, returned, is_generic, is_vararg}
 
@@ -37,12 +38,15 @@ abbrev pub StandsBefore : Bool → ℕ → Option ℕ → Type 0
 StandsBefore vararg params None = Unit {0}
 StandsBefore vararg params (Some k) = (vararg ≡ true) × (k < params)
 
-pub record IsValidMethod (Inner : Slot → SigTy → Type 0) (kind : MethodKind) (sig : MethodSig) : Type 0 where
-  pub begins : may_begin kind (out-MethodSig sig).flags ≡ true
-  pub generics : AreGenerics (is_generic (out-MethodSig sig).flags) (out-MethodSig sig).generics
-  pub result : Inner (returned kind) (out-MethodSig sig).result
-  pub params : AllCounted (Inner Param) (out-MethodSig sig).params
-  pub sentinel : StandsBefore (is_vararg (out-MethodSig sig).flags) (length (out-MethodSig sig).params) (out-MethodSig sig).sentinel
+pub record IsValidOpenMethod (Inner : Slot → SigTy → Type 0) (kind : MethodKind) (m : MethodSig-F SigTy MethodSig) : Type 0 where
+  pub begins : may_begin kind m.flags ≡ true
+  pub generics : AreGenerics (is_generic m.flags) m.generics
+  pub result : Inner (returned kind) m.result
+  pub params : AllCounted (Inner Param) m.params
+  pub sentinel : StandsBefore (is_vararg m.flags) (length m.params) m.sentinel
+
+abbrev pub IsValidMethod : (Slot → SigTy → Type 0) → MethodKind → MethodSig → Type 0
+IsValidMethod Inner kind sig = IsValidOpenMethod Inner kind (out-MethodSig sig)
 
 -- ---- types (II.23.2.7 to II.23.2.14)
 
