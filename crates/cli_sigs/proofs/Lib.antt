@@ -10,3 +10,4 @@ pub mod KindLaws
 pub mod AttributeLaws
 pub mod PrintLaws
 pub mod ValidLaws
+pub mod CommaLaws

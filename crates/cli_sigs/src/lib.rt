@@ -12,7 +12,7 @@ mod reading;
 mod tests;
 mod types;
 
-pub use attribute::read_type_attribute;
+pub use attribute::{TypeName, read_type_attribute, split_type_name};
 pub use blobs::{
     read_field_sig, read_locals, read_method_sig, read_method_spec, read_property_sig,
     read_type_spec,
