@@ -1,7 +1,7 @@
 -- Where a reader stops is the end of the longest front with which something in its grammar begins.
-use Rattle.std.proofs.Common.{◌≡◌, ℕ, zero, suc, ◌+◌, ◌-◌, ◌<◌, ◌≤◌, List, [], ◌∷◌, ◌++◌, length, take, Ok, Err, refl, sym, ap, subst, ◌∙◌, append-nil, append_assoc, arith, add-one}
+use Rattle.std.proofs.Common.{◌≡◌, ℕ, zero, suc, ◌-◌, ◌<◌, ◌≤◌, List, [], ◌∷◌, ◌++◌, length, take, Ok, Err, refl, sym, ap, subst, ◌∙◌, append-nil, append_assoc, arith}
 use Rattle.std.proofs.lemmas.List.{take_at, take_all, length-append}
-use Rattle.cli_sigs.specs.Read.{Outcome, Reader}
+use Rattle.cli_sigs.specs.Read.{Reader}
 use Rattle.cli_sigs.specs.Grammar.{Begins, IsLongest}
 use Rattle.cli_sigs.proofs.Readers.{IsReader, ok_is}
 

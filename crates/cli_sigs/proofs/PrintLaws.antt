@@ -1,5 +1,5 @@
 -- What is added to the bytes is a spelling of the value.
-use Rattle.std.proofs.Common.{◌≡◌, ℕ, zero, suc, ◌+◌, ◌-◌, ◌<◌, ◌≤◌, List, [], ◌∷◌, ◌++◌, length, take, drop, get_or, Bool, true, false, Option, Some, None, refl, sym, ap, subst, ◌∙◌, arith, append-nil, append_assoc, length-drop}
+use Rattle.std.proofs.Common.{◌≡◌, ℕ, zero, suc, ◌+◌, ◌-◌, ◌<◌, ◌≤◌, List, [], ◌∷◌, ◌++◌, length, take, drop, get_or, Bool, true, Option, Some, None, refl, sym, ap, subst, ◌∙◌, arith, append-nil, append_assoc, length-drop}
 use Rattle.std.proofs.lemmas.List.{take_more, take-append-drop, length-take-le}
 use Rattle.std.specs.Prelude.{ℤ, OnOk, Result, Ok, Err}
 use Rattle.cli_sigs.specs.declared.elements.Slot.{Slot}
@@ -9,7 +9,7 @@ use Rattle.cli_sigs.specs.declared.types.SigTy.{SigTy, out-SigTy, roll-SigTy, ou
 use Rattle.cli_sigs.specs.declared.types.SigTy.TheOpen.{SigTy-F}
 use Rattle.cli_sigs.specs.declared.types.SigTy.TheVariants as ty
 use Rattle.cli_sigs.specs.declared.types.SigTy.TheVariants.{rolls-Prim}
-use Rattle.cli_sigs.specs.declared.types.MethodSig.{MethodSig, out-MethodSig, roll-MethodSig, roll-out-MethodSig}
+use Rattle.cli_sigs.specs.declared.types.MethodSig.{MethodSig, out-MethodSig, roll-out-MethodSig}
 use Rattle.cli_sigs.specs.Elements.{kept}
 use Rattle.cli_sigs.specs.Methods.{returned, is_generic, is_vararg}
 use Rattle.cli_sigs.specs.Numbers.{IsPacked, IsSigned}
@@ -39,9 +39,11 @@ each_push G bs text [] y e g = (text, [], ap (λ (l : List ℕ). l ++ text) e �
 each_push G bs text (x ∷ xs) y (f, b, e, gx, gs) g = (f, b ++ text, ap (λ (l : List ℕ). l ++ text) e ∙ append_assoc f b text, gx, each_push G b text xs y gs g)
 
 pub each_adds : {A : Type 0} (G : List ℕ → A → Type 0) (xs : List A) (i : ℕ) (d y : A) (old mid new : List ℕ) → i < length xs → y ≡ get_or xs i d → Adds (Each G) old mid (take i xs) → Adds G mid new y → Adds (Each G) old new (take (i + 1) xs)
-each_adds G xs i d y old mid new lt is (text, m, gs) (more, n, g) =
-    (text ++ more, n ∙ ap (λ (l : List ℕ). l ++ more) m ∙ append_assoc old text more,
-      subst (λ l. Each G (text ++ more) l) (sym (take_more xs i d lt)) (subst (λ z. Each G (text ++ more) (take i xs ++ z ∷ [])) is (each_push G text more (take i xs) y gs g)))
+each_adds G xs i d y old mid new lt is (text, m, gs) (more, n, g) = (
+  text ++ more,
+  n ∙ ap (λ (l : List ℕ). l ++ more) m ∙ append_assoc old text more,
+  subst (λ l. Each G (text ++ more) l) (sym (take_more xs i d lt)) (subst (λ z. Each G (text ++ more) (take i xs ++ z ∷ [])) is (each_push G text more (take i xs) y gs g)),
+)
 
 -- ---- parameters
 
@@ -54,10 +56,12 @@ some_adds P ts s k o0 o1 o2 o3 is lt (front, e1, ef) e2 (back, e3, eb) =
     let all : o3 ≡ o0 ++ (front ++ 0x41 ∷ back) = e3 ∙ ap (λ (l : List ℕ). l ++ back) (e2 ∙ ap (λ (l : List ℕ). l ++ 0x41 ∷ []) e1) ∙ simp append_assoc in
     let some : 1 ≤ length (drop k ts) = grind (arith, length-drop) in
     let same : Some (length (take k ts)) ≡ s = ap (λ (n : ℕ). let o : Option ℕ = Some n in o) (length-take-le k ts (omega arith)) ∙ sym is in
-    let whole : take k ts ++ drop k ts ≡ ts = take-append-drop k ts in
-    (front ++ 0x41 ∷ back, all,
+    let whole : take k ts ++ drop k ts ≡ ts = take-append-drop k ts in (
+      front ++ 0x41 ∷ back,
+      all,
       subst (λ (us : List SigTy). IsParams P true (front ++ 0x41 ∷ back) us s) whole
-        (subst (λ (z : Option ℕ). IsParams P true (front ++ 0x41 ∷ back) (take k ts ++ drop k ts) z) same (some_extra front back (take k ts) (drop k ts) refl ef eb some)))
+          (subst (λ (z : Option ℕ). IsParams P true (front ++ 0x41 ∷ back) (take k ts ++ drop k ts) z) same (some_extra front back (take k ts) (drop k ts) refl ef eb some)),
+    )
 
 params_in : (P : List ℕ → SigTy → Type 0) (vararg : Bool) (bs : List ℕ) (ts : List SigTy) (s : Option ℕ) → StandsBefore vararg (length ts) s → IsParams P true bs ts s → IsParams P vararg bs ts s
 params_in P vararg bs ts s h (all_fixed e) = all_fixed e
@@ -70,9 +74,9 @@ module _ (I : Slot → List ℕ → SigTy → Type 0) where
   method_adds Inner kind sig o0 o1 o2 o3 o4 o5 valid e1 (gs, e2, g) (ns, e3, n) (rs, e4, r) (ps, e5, p) =
       let m = out-MethodSig sig in
       let all : o5 ≡ o0 ++ (m.flags ∷ gs ++ (ns ++ (rs ++ ps))) =
-            e5 ∙ ap (λ (l : List ℕ). l ++ ps) (e4 ∙ ap (λ (l : List ℕ). l ++ rs) (e3 ∙ ap (λ (l : List ℕ). l ++ ns) (e2 ∙ ap (λ (l : List ℕ). l ++ gs) e1))) ∙ simp append_assoc in
+      e5 ∙ ap (λ (l : List ℕ). l ++ ps) (e4 ∙ ap (λ (l : List ℕ). l ++ rs) (e3 ∙ ap (λ (l : List ℕ). l ++ ns) (e2 ∙ ap (λ (l : List ℕ). l ++ gs) e1))) ∙ simp append_assoc in
       let spelled : IsMethod I kind (m.flags ∷ gs ++ (ns ++ (rs ++ ps))) (method_of m.flags m.generics m.result m.params m.sentinel) =
-            method gs ns rs ps valid.begins g n r (params_in (I Param) (is_vararg m.flags) ps m.params m.sentinel valid.sentinel p) in
+      method gs ns rs ps valid.begins g n r (params_in (I Param) (is_vararg m.flags) ps m.params m.sentinel valid.sentinel p) in
       (m.flags ∷ gs ++ (ns ++ (rs ++ ps)), all, subst (λ (x : MethodSig). IsMethod I kind (m.flags ∷ gs ++ (ns ++ (rs ++ ps))) x) (roll-out-MethodSig sig) spelled)
 
   -- ---- types
@@ -91,7 +95,7 @@ module _ (I : Slot → List ℕ → SigTy → Type 0) where
         → Adds (Counted IsPacked) o3 o4 sizes → Adds (Counted IsSigned) o4 o5 lows → Adds (Layer I slot) o0 o5 v
     array_adds v t rank sizes lows o0 o1 o2 o3 o4 o5 is e1 (ts, e2, it) (rs, e3, pr) (ss, e4, cs) (ls, e5, cl) =
         let all : o5 ≡ o0 ++ (0x14 ∷ ts ++ (rs ++ (ss ++ ls))) =
-              e5 ∙ ap (λ (l : List ℕ). l ++ ls) (e4 ∙ ap (λ (l : List ℕ). l ++ ss) (e3 ∙ ap (λ (l : List ℕ). l ++ rs) (e2 ∙ ap (λ (l : List ℕ). l ++ ts) e1))) ∙ simp append_assoc in
+        e5 ∙ ap (λ (l : List ℕ). l ++ ls) (e4 ∙ ap (λ (l : List ℕ). l ++ ss) (e3 ∙ ap (λ (l : List ℕ). l ++ rs) (e2 ∙ ap (λ (l : List ℕ). l ++ ts) e1))) ∙ simp append_assoc in
         (0x14 ∷ ts ++ (rs ++ (ss ++ ls)), all, subst (λ (x : SigTy). Layer I slot (0x14 ∷ ts ++ (rs ++ (ss ++ ls))) x) (sym is) (array sizes lows ts rs ss ls it pr cs cl))
 
     pub inst_adds : (v : SigTy) (value : Bool) (coded : ℕ) (args : List SigTy) (k : ℕ) (o0 o1 o2 o3 o4 : List ℕ) → v ≡ ty.Inst value coded args → k ≡ named_byte value → o1 ≡ o0 ++ 0x15 ∷ [] → o2 ≡ o1 ++ k ∷ []

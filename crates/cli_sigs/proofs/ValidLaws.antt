@@ -1,5 +1,5 @@
 -- A value that has a spelling is valid.
-use Rattle.std.proofs.Common.{◌≡◌, ◌==◌, ℕ, zero, suc, ◌+◌, ◌-◌, ◌*◌, ◌/◌, ◌%◌, ◌^◌, ◌<◌, ◌≤◌, Bool, true, false, cond, List, [], ◌∷◌, ◌++◌, length, Option, Some, None, refl, sym, ap, subst, ◌∙◌, arith, length-append}
+use Rattle.std.proofs.Common.{◌≡◌, ◌==◌, ℕ, zero, suc, ◌*◌, ◌/◌, ◌%◌, ◌<◌, ◌≤◌, Bool, true, false, cond, List, [], ◌∷◌, length, Option, sym, ap, subst, ◌∙◌, arith, length-append}
 use Rattle.std.proofs.lemmas.Int.{ints}
 use Rattle.std.proofs.lemmas.List.Elements.{All-nil, All-cons, All-append}
 use Rattle.std.specs.List.{All}
@@ -12,7 +12,7 @@ use Rattle.cli_sigs.specs.declared.elements.MethodKind.TheVariants.{Pointer}
 use Rattle.cli_sigs.specs.declared.types.SigTy.{SigTy, out-SigTy, roll-SigTy, out-roll-SigTy}
 use Rattle.cli_sigs.specs.declared.types.SigTy.TheOpen.{SigTy-F}
 use Rattle.cli_sigs.specs.declared.types.SigTy.TheVariants as ty
-use Rattle.cli_sigs.specs.declared.types.MethodSig.{MethodSig, out-MethodSig, roll-MethodSig, out-roll-MethodSig}
+use Rattle.cli_sigs.specs.declared.types.MethodSig.{MethodSig, out-roll-MethodSig}
 use Rattle.cli_sigs.specs.declared.types.MethodSig.{MethodSig-F}
 use Rattle.cli_sigs.specs.Methods.{returned, is_generic, is_vararg}
 use Rattle.cli_sigs.specs.Numbers.{IsPacked, IsSigned, unrotated, half_of}
@@ -61,7 +61,7 @@ generics_valid : (generic : Bool) (bs : List ℕ) (n : ℕ) → IsGenerics gener
 generics_valid true bs n h = short bs n h
 generics_valid false bs n h = h.1
 
-form_is : (slot : Slot) (Inner : Slot → SigTy → Type 0) (t : SigTy) (form : SigTy-F SigTy MethodSig) → roll-SigTy form ≡ t → IsValidForm Inner slot form → IsValidForm Inner slot (out-SigTy t)
+pub form_is : (slot : Slot) (Inner : Slot → SigTy → Type 0) (t : SigTy) (form : SigTy-F SigTy MethodSig) → roll-SigTy form ≡ t → IsValidForm Inner slot form → IsValidForm Inner slot (out-SigTy t)
 form_is slot Inner t form rolls h = subst (λ (x : SigTy-F SigTy MethodSig). IsValidForm Inner slot x) (sym (out-roll-SigTy form) ∙ ap out-SigTy rolls) h
 
 module _ (Inner : Slot → List ℕ → SigTy → Type 0) (Valid : Slot → SigTy → Type 0) (h : (slot : Slot) (bs : List ℕ) (t : SigTy) → Inner slot bs t → Valid slot t) where

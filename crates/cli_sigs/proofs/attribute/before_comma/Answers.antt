@@ -1,4 +1,4 @@
-use Rattle.std.proofs.Common.{◌≤◌, length, arith}
+use Rattle.std.proofs.Common.{arith}
 use Rattle.cli_sigs.proofs.CommaLaws.{before_found, before_none}
 use Rattle.cli_sigs.proofs.attribute.before_comma.Goals as goal
 

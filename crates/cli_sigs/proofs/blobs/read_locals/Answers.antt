@@ -1,10 +1,9 @@
 use Rattle.cil_base.specs.declared.rule.Rule.TheVariants.{S1}
-use Rattle.cli_sigs.specs.declared.elements.Slot.TheVariants.{Plain, Local}
-use Rattle.cli_sigs.specs.declared.elements.MethodKind.TheVariants.{Method, Property}
+use Rattle.cli_sigs.specs.declared.elements.Slot.TheVariants.{Local}
 use Rattle.cli_sigs.specs.Grammar.{IsType, IsLocals}
 use Rattle.cli_sigs.specs.Valid.{IsValidType, AreValidLocals}
-use Rattle.cli_sigs.specs.Reading.{type_at, method_at, field_at, list_at}
-use Rattle.cli_sigs.proofs.KindLaws.{reads-methods, reads-spec, reads-field, reads-list}
+use Rattle.cli_sigs.specs.Reading.{list_at}
+use Rattle.cli_sigs.proofs.KindLaws.{reads-list}
 use Rattle.cli_sigs.proofs.ValidLaws.{read_valid, counted_valid, type_valid}
 use Rattle.cli_sigs.proofs.BlobLaws.{reads_within, answers_found, answers_only, answers_refused}
 use Rattle.cli_sigs.proofs.blobs.read_locals.Goals as goal

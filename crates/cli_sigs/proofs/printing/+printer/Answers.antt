@@ -1,5 +1,5 @@
 -- Each form of a type, and a method, from its parts.
-use Rattle.std.proofs.Common.{ℕ, List, ◌∷◌, ap, rules}
+use Rattle.std.proofs.Common.{rules}
 use Rattle.cli_sigs.specs.declared.elements.Slot.TheVariants.{Plain, Pointed, Param}
 use Rattle.cli_sigs.specs.declared.elements.MethodKind.TheVariants.{Pointer}
 use Rattle.cli_sigs.specs.declared.types.SigTy.TheVariants as ty
@@ -7,8 +7,8 @@ use Rattle.cli_sigs.specs.declared.types.SigTy.TheVariants.{rolls-ByRef, rolls-P
 use Rattle.cli_sigs.specs.declared.types.SigTy.TheOpen.{SigTy-F}
 use Rattle.cli_sigs.specs.declared.types.MethodSig.{out-MethodSig}
 use Rattle.cli_sigs.specs.Numbers.{IsPacked}
-use Rattle.cli_sigs.specs.Grammar.{IsType, IsMethod, Each, prim, ptr, by_ref, named, var, mvar, func, sz_array, pinned, named_byte}
-use Rattle.cli_sigs.specs.Valid.{IsValidType, IsValidForm}
+use Rattle.cli_sigs.specs.Grammar.{IsType, IsMethod, ptr, by_ref, named, var, mvar, func, sz_array, pinned, named_byte}
+use Rattle.cli_sigs.specs.Valid.{IsValidType}
 use Rattle.cli_sigs.proofs.PrintLaws.{on_ok, each_adds, none_adds, some_adds, method_adds, form_adds, prim_adds, array_adds, inst_adds, modified_adds, in_form, deep, opened, closed}
 use Rattle.cli_sigs.proofs.printing.+printer.Goals as goal
 

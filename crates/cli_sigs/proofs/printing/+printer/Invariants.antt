@@ -1,4 +1,4 @@
-use Rattle.std.proofs.Common.{ℕ, ◌+◌, ◌*◌, take}
+use Rattle.std.proofs.Common.{◌+◌, ◌*◌, take}
 use Rattle.cli_sigs.specs.Grammar.{IsType, Each, Adds}
 use Rattle.cli_sigs.proofs.printing.+printer.Given as goal
 
