@@ -13,7 +13,7 @@ use Rattle.cli_sigs.specs.declared.types.MethodSig.{MethodSig, out-MethodSig, ro
 use Rattle.cli_sigs.specs.Elements.{kept}
 use Rattle.cli_sigs.specs.Methods.{returned, is_generic, is_vararg}
 use Rattle.cli_sigs.specs.Numbers.{IsPacked, IsSigned}
-use Rattle.cli_sigs.specs.Grammar.{Adds, Each, Counted, IsGenerics, IsParams, all_fixed, some_extra, IsMethod, method, Layer, prim, array, inst, modified, IsType, named_byte, modifier_byte, method_of}
+use Rattle.cli_sigs.specs.Grammar.{Adds, Behind, Each, Counted, IsGenerics, IsParams, all_fixed, some_extra, IsMethod, method, Layer, prim, array, inst, modified, IsType, named_byte, modifier_byte, method_of}
 use Rattle.cli_sigs.specs.Valid.{StandsBefore, IsValidMethod, IsValidForm, IsValidType}
 
 -- ---- answers that are Ok
@@ -31,6 +31,14 @@ in_form Inner slot t u form is rolls h = subst (λ (x : SigTy-F SigTy MethodSig)
 
 pub behind_byte : {A B : Type 0} (G : List ℕ → A → Type 0) (H : List ℕ → B → Type 0) (b : ℕ) (v : A) (w : B) (old mid new : List ℕ) → ((text : List ℕ) → G text v → H (b ∷ text) w) → mid ≡ old ++ b ∷ [] → Adds G mid new v → Adds H old new w
 behind_byte G H b v w old mid new f m (text, n, g) = (b ∷ text, n ∙ ap (λ (l : List ℕ). l ++ text) m ∙ append_assoc old (b ∷ []) text, f text g)
+
+-- ---- all that was printed
+
+pub from_empty : {A : Type 0} (G : List ℕ → A → Type 0) (new : List ℕ) (v : A) → Adds G [] new v → G new v
+from_empty G new v (text, e, g) = subst (λ (l : List ℕ). G l v) (sym e) g
+
+pub behind_first : {A : Type 0} (G : List ℕ → A → Type 0) (b : ℕ) (first new : List ℕ) (v : A) → first ≡ b ∷ [] → Adds G first new v → Behind b G new v
+behind_first G b first new v m (text, e, g) = (text, e ∙ ap (λ (l : List ℕ). l ++ text) m, g)
 
 -- ---- lists
 

@@ -1,7 +1,8 @@
 // Printers of types and methods (ECMA-335, II.23.2): the shortest spelling of each number.
-ghost use Rattle.std.specs.Prelude.{◌≡◌, ◌+◌, ◌*◌, ◌/◌, ◌%◌, ◌<◌, ◌≤◌, pos, neg_ℤ, ◌≤ℤ◌, ◌<ℤ◌, [], ◌∷◌, ◌++◌, length, true, OnOk, IfOk};
+ghost use Rattle.std.specs.Prelude.{◌≡◌, ◌+◌, ◌*◌, ◌/◌, ◌%◌, ◌<◌, ◌≤◌, pos, neg_ℤ, ◌≤ℤ◌, ◌<ℤ◌, [], ◌∷◌, ◌++◌, length, List, true, OnOk, IfOk};
 ghost use Rattle.std.specs.List.{All};
-ghost use Rattle.cli_sigs.specs.declared.types.SigTy.{out-SigTy};
+ghost use Rattle.cli_sigs.specs.declared.types.SigTy.{SigTy, out-SigTy};
+ghost use Rattle.cli_sigs.specs.declared.types.MethodSig.{MethodSig};
 ghost use Rattle.cli_sigs.specs.Methods.{is_generic};
 ghost use Rattle.cli_sigs.specs.Numbers.{IsPacked, IsSigned, unrotated};
 ghost use Rattle.cli_sigs.specs.Grammar.{Adds, Counted, Each, IsGenerics, IsParams, IsMethod, IsType, Layer, IsMethodSig, IsLocals, IsTypeSpec, IsMethodSpec, named_byte, modifier_byte};
@@ -40,7 +41,7 @@ fn push_number(out: &mut Bytes, n: u32) -> Result<(), AllocError>
     push_packed(out, n)
 }
 
-/// The number of which `z` is the signed reading in a spelling that reaches from -half to half - 1.
+/// The unsigned number that is read as `z` where signed ones reach from -half to half - 1.
 fn rotated(half: u32, z: i32) -> u32
     requires small { half ≤ 0x10000000 }
     requires low { neg_ℤ (pos half) ≤ℤ z }
@@ -287,7 +288,8 @@ fn push_type(out: &mut Bytes, depth: u32, slot: Slot, ty: &SigTy) -> Result<(), 
 /// read back as `sig`.
 pub fn print_method_sig(alloc: Global, sig: &MethodSig) -> Result<Bytes, AllocError>
     requires { IsValidMethodSig sig.now }
-    ensures { IfOk result (λ blob. IsMethodSig blob sig.now) }
+    ensures spelled { IfOk result (λ blob. IsMethodSig blob sig.now) }
+    ensures reads_back { IfOk result (λ blob. (read : MethodSig) → IsMethodSig blob read → read ≡ sig.now) }
 {
     let mut out = Items::new(alloc);
     push_method(&mut out, MOST_NESTED, MethodKind::Method, sig)?;
@@ -297,7 +299,8 @@ pub fn print_method_sig(alloc: Global, sig: &MethodSig) -> Result<Bytes, AllocEr
 /// A blob of the types of a method's locals (II.23.2.6), which is read back as `types`.
 pub fn print_locals(alloc: Global, types: &SigTys) -> Result<Bytes, AllocError>
     requires { AreValidLocals types.now }
-    ensures { IfOk result (λ blob. IsLocals blob types.now) }
+    ensures spelled { IfOk result (λ blob. IsLocals blob types.now) }
+    ensures reads_back { IfOk result (λ blob. (read : List SigTy) → IsLocals blob read → read ≡ types.now) }
 {
     let mut out = Items::new(alloc);
     out.push(0x07)?;
@@ -308,7 +311,8 @@ pub fn print_locals(alloc: Global, types: &SigTys) -> Result<Bytes, AllocError>
 /// A blob of the type of a TypeSpec row (II.23.2.14), which is read back as `ty`.
 pub fn print_type(alloc: Global, ty: &SigTy) -> Result<Bytes, AllocError>
     requires { IsValidTypeSpec ty.now }
-    ensures { IfOk result (λ blob. IsTypeSpec blob ty.now) }
+    ensures spelled { IfOk result (λ blob. IsTypeSpec blob ty.now) }
+    ensures reads_back { IfOk result (λ blob. (read : SigTy) → IsTypeSpec blob read → read ≡ ty.now) }
 {
     let mut out = Items::new(alloc);
     push_type(&mut out, MOST_NESTED, Slot::Plain, ty)?;
@@ -318,7 +322,8 @@ pub fn print_type(alloc: Global, ty: &SigTy) -> Result<Bytes, AllocError>
 /// A blob of the arguments of a MethodSpec row (II.23.2.15), which is read back as `args`.
 pub fn print_method_spec(alloc: Global, args: &SigTys) -> Result<Bytes, AllocError>
     requires { IsValidMethodSpec args.now }
-    ensures { IfOk result (λ blob. IsMethodSpec blob args.now) }
+    ensures spelled { IfOk result (λ blob. IsMethodSpec blob args.now) }
+    ensures reads_back { IfOk result (λ blob. (read : List SigTy) → IsMethodSpec blob read → read ≡ args.now) }
 {
     let mut out = Items::new(alloc);
     out.push(0x0A)?;
