@@ -3,7 +3,7 @@ use Rattle.std.proofs.Common.{◌≡◌, ℕ, zero, suc, ◌+◌, ◌-◌, ◌<�
 use Rattle.std.specs.Prelude.{find, is_some, option_map}
 use Rattle.std.proofs.lemmas.Bool.{le-leb, lt-leb, and_right}
 use Rattle.std.proofs.lemmas.Option.{same_Some}
-use Rattle.std.proofs.lemmas.List.{length-append, length-drop, length-replicate, length-take-le, take_all, drop-append-le}
+use Rattle.std.proofs.lemmas.List.{take-take, length-append, length-drop, length-replicate, length-take-le, take_all, drop-append-le}
 use Rattle.pe_image.specs.declared.headers.Headers.{Headers}
 use Rattle.pe_image.specs.declared.section.Section.{Section}
 use Rattle.pe_image.specs.declared.cli.CliHeader.{CliHeader}
@@ -14,11 +14,11 @@ use Rattle.pe_image.specs.Growth.{addresses_end}
 use Rattle.pe_image.specs.Written.{zeros}
 use Rattle.pe_image.proofs.GrownLaws.{inner, kept_bytes, new_raw, placed}
 use Rattle.pe_image.proofs.SectionLaws.{holds_true, find_meets, found_in, behind_floor}
-use Rattle.pe_image.specs.ReadBack.{Misses}
+use Rattle.pe_image.specs.ReadBack.{Misses, SameFront}
 use Rattle.pe_image.proofs.PieceLaws.{within}
 use Rattle.pe_image.proofs.FieldLaws.{IsMoved, new_section}
 use Rattle.pe_image.proofs.TableLaws.{FoundGrown, found_grown, none_grown, found_apart}
-use Rattle.pe_image.proofs.SettingLaws.{pieces, Setting, fields, table, old_cli, old_place, cli_in_section, place_grown}
+use Rattle.pe_image.proofs.SettingLaws.{numbers, pieces, Setting, fields, table, old_cli, old_place, cli_in_section, place_grown}
 
 -- ---- the bytes of an old section
 
@@ -110,23 +110,32 @@ old_rva b a h at cli section out g s rva n x e misses =
     ap (option_map (λ (u : Section). part out (place_in u rva) n)) (out_section b a h at cli section out g s rva n ∙ t.found)
     ∙ ap Some (same_bytes b a h at cli section out g s rva n n m.section t.section found t.moved both.0 both.1 misses ∙ m.value)
 
-pub old_tail : (b : List ℕ) (a : ℕ) (h : Headers) (at : ℕ) (cli : CliHeader) (section out : List ℕ) (g : Growth) → Setting b a h at cli section out g → (rva : ℕ) (x : List ℕ) → tail_at b rva ≡ Some x → Misses (cli_rva b h) rva (length x) → tail_at out rva ≡ Some x
-old_tail b a h at cli section out g s rva x e misses =
+pub old_tail : (b : List ℕ) (a : ℕ) (h : Headers) (at : ℕ) (cli : CliHeader) (section out : List ℕ) (g : Growth) → Setting b a h at cli section out g → (rva n : ℕ) (x : List ℕ) → tail_at b rva ≡ Some x → n ≤ length x → Misses (cli_rva b h) rva n → SameFront x n (tail_at out rva)
+old_tail b a h at cli section out g s rva n x e fits misses =
     let size = headers_size b h in
-    let m = mapped (λ (u : Section). part b (place_in u rva) (u.address + u.raw_size - rva)) (section_of b (headers_of b) rva 1) x e in
-    let u = m.section in
-    let found : section_of b h rva 1 ≡ Some u = old_section b a h at cli section out g s rva 1 ∙ m.is in
+    let k = numbers b a h at cli section out g s in
+    let f = mapped (λ (v : Section). part b (place_in v rva) (v.address + v.raw_size - rva)) (section_of b (headers_of b) rva 1) x e in
+    let u = f.section in
+    let found : section_of b h rva 1 ≡ Some u = old_section b a h at cli section out g s rva 1 ∙ f.is in
     let t = out_found b a h at cli section out g s rva 1 u found in
     let both = holds_true rva 1 u (find_meets (holds rva 1) (sections_of b h) u found) in
     let some : 0 < u.raw_size = omega (arith, both.0, both.1) in
     let end : raw_end u ≤ length b = (found_in (holds rva 1) b a size size h.sections h.count u s.order.sections found).within some in
-    let n = u.address + u.raw_size - rva in
-    let long : length (part b (place_in u rva) n) ≡ n = length-take-le n (drop (place_in u rva) b) (omega (arith, length-drop (place_in u rva) b, both.0, both.1)) in
-    let same_long : length x ≡ n = ap length (sym m.value) ∙ long in
-    let misses_n : Misses (cli_rva b h) rva n = subst (Misses (cli_rva b h) rva) same_long misses in
+    let m = u.address + u.raw_size - rva in
+    let place = place_grown u t.section g.by rva t.moved some in
+    let old_long : length (part b (place_in u rva) m) ≡ m = length-take-le m (drop (place_in u rva) b) (omega (arith, length-drop (place_in u rva) b, both.0, both.1)) in
+    let new_long : length (part out (place_in t.section rva) m) ≡ m = length-take-le m (drop (place_in t.section rva) out) (omega (arith, place, length-drop (place_in t.section rva) out, both.0, both.1)) in
+    let same_long : length x ≡ m = ap length (sym f.value) ∙ old_long in
+    let now : tail_at out rva ≡ Some (part out (place_in t.section rva) m) =
     ap (option_map (λ (v : Section). part out (place_in v rva) (v.address + v.raw_size - rva))) (out_section b a h at cli section out g s rva 1 ∙ t.found)
-    ∙ ap (λ (v : Section). Some (part out (place_in t.section rva) (v.address + v.raw_size - rva))) t.moved.rest
-    ∙ ap Some (same_bytes b a h at cli section out g s rva 1 n u t.section found t.moved both.0 (omega (arith, both.0, both.1)) misses_n ∙ m.value)
+    ∙ ap (λ (v : Section). Some (part out (place_in t.section rva) (v.address + v.raw_size - rva))) t.moved.rest in
+    subst (SameFront x n) (sym now) (
+      new_long ∙ sym same_long,
+      take-take n m (drop (place_in t.section rva) out) (omega arith)
+          ∙ same_bytes b a h at cli section out g s rva 1 n u t.section found t.moved both.0 (omega (arith, both.0, both.1)) misses
+          ∙ sym (take-take n m (drop (place_in u rva) b) (omega arith))
+          ∙ ap (take n) f.value,
+    )
 
 -- ---- the new section
 
