@@ -1,5 +1,5 @@
 -- What a written image reads back as.
-use Rattle.std.proofs.Common.{◌≡◌, ℕ, ◌+◌, ◌-◌, ◌^◌, ◌<◌, ◌≤◌, Bool, true, false, cond, not, ltb, eqb, List, [], ◌∷◌, length, Option, Some, None, refl, sym, ap, subst, ◌∙◌, ◌⊎◌, arith}
+use Rattle.std.proofs.Common.{◌≡◌, ℕ, ◌+◌, ◌-◌, ◌^◌, ◌<◌, ◌≤◌, Bool, true, false, cond, not, ltb, eqb, List, [], ◌∷◌, length, Option, Some, None, refl, sym, ap, subst, ◌∙◌, arith}
 use Rattle.std.specs.Prelude.{Result, Ok, Err, IfOk, bit_and, is_some, unwrap_or}
 use Rattle.std.specs.Int.{next_multiple_of}
 use Rattle.std.proofs.lemmas.Nat.{and_assoc, and_le_r}
@@ -18,7 +18,7 @@ use Rattle.pe_image.specs.Cli.{cli_place, cli_of, metadata_of}
 use Rattle.pe_image.specs.Rules.{test, is_il_only, cli_tests, Broken}
 use Rattle.pe_image.specs.Growth.{addresses_end, has_room, new_address, no_room, too_long, growth_of, grown_len, room_in, room_of}
 use Rattle.pe_image.specs.Written.{grown, grown_cli, grown_by, grown_in}
-use Rattle.pe_image.specs.ReadBack.{new_rva, new_raw_size, IsApart, Grows}
+use Rattle.pe_image.specs.ReadBack.{new_rva, new_raw_size, Misses, MissesCli, Grows}
 use Rattle.pe_image.proofs.SectionLaws.{none_of}
 use Rattle.pe_image.proofs.RuleLaws.{accepted}
 use Rattle.pe_image.proofs.GrowthLaws.{room_gives}
@@ -138,14 +138,14 @@ grows_at b a section out rva len s room none small1 small2 p =
     let k = kept_cli b rva len small1 small2 in
     let same : cli_of out ≡ cli = cli_is_grown b a h at cli section out g s k in
     let self : (cli_of b).header_rva ≡ cli_rva b h = k.self in
-    let near : (x n : ℕ) → IsApart b x n → (x + n ≤ cli_rva b h + 8) ⊎ (cli_rva b h + 40 ≤ x) = λ x n apart. subst (λ (r : ℕ). (x + n ≤ r + 8) ⊎ (r + 40 ≤ x)) self apart in
+    let near : (x n : ℕ) → MissesCli b x n → Misses (cli_rva b h) x n = λ x n misses. subst (λ (r : ℕ). Misses r x n) self misses in
     record {
       room = room;
       accepted = passes b a h at cli section out g rva len s p k refl refl (still_only (cli_of b).flags (il_only b a none));
       cli = same;
       metadata = metadata_there out cli (part section (rva - g.address) len) same (metadata_at b a h at cli section out g rva len s p);
-      old_rvas = λ x n there e apart. old_rva b a h at cli section out g s x n there e (near x n apart);
-      old_tails = λ x there e apart. old_tail b a h at cli section out g s x there e (near x (length there) apart);
+      old_rvas = λ x n there e misses. old_rva b a h at cli section out g s x n there e (near x n misses);
+      old_tails = λ x n there e fits misses. old_tail b a h at cli section out g s x n there e fits (near x n misses);
       new_rvas = new_rva_is b a h at cli section out g s;
       new_tails = new_tail_is b a h at cli section out g s;
       no_others = no_other b a h at cli section out g s;

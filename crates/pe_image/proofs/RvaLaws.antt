@@ -3,7 +3,7 @@ use Rattle.std.proofs.Common.{◌≡◌, ℕ, zero, suc, ◌+◌, ◌-◌, ◌<�
 use Rattle.std.specs.Prelude.{find, is_some, option_map}
 use Rattle.std.proofs.lemmas.Bool.{le-leb, lt-leb, and_right}
 use Rattle.std.proofs.lemmas.Option.{same_Some}
-use Rattle.std.proofs.lemmas.List.{length-append, length-drop, length-replicate, length-take-le, take_all, drop-append-le}
+use Rattle.std.proofs.lemmas.List.{take-take, length-append, length-drop, length-replicate, length-take-le, take_all, drop-append-le}
 use Rattle.pe_image.specs.declared.headers.Headers.{Headers}
 use Rattle.pe_image.specs.declared.section.Section.{Section}
 use Rattle.pe_image.specs.declared.cli.CliHeader.{CliHeader}
@@ -11,20 +11,49 @@ use Rattle.pe_image.specs.declared.growth.Growth.{Growth}
 use Rattle.pe_image.specs.Headers.{headers_of, headers_size, cli_rva}
 use Rattle.pe_image.specs.Sections.{sections_at, sections_of, section_of, place_in, part, at_rva, tail_at, raw_end, holds}
 use Rattle.pe_image.specs.Growth.{addresses_end}
-use Rattle.pe_image.specs.Written.{zeros, grown}
-use Rattle.pe_image.proofs.GrownLaws.{kept_bytes, new_raw, placed}
+use Rattle.pe_image.specs.Written.{zeros}
+use Rattle.pe_image.proofs.GrownLaws.{inner, kept_bytes, new_raw, placed}
 use Rattle.pe_image.proofs.SectionLaws.{holds_true, find_meets, found_in, behind_floor}
+use Rattle.pe_image.specs.ReadBack.{Misses, SameFront}
 use Rattle.pe_image.proofs.PieceLaws.{within}
 use Rattle.pe_image.proofs.FieldLaws.{IsMoved, new_section}
 use Rattle.pe_image.proofs.TableLaws.{FoundGrown, found_grown, none_grown, found_apart}
-use Rattle.pe_image.proofs.SettingLaws.{Setting, fields, table, old_cli, old_place, cli_in_section, place_grown}
+use Rattle.pe_image.proofs.SettingLaws.{numbers, pieces, Setting, fields, table, old_cli, old_place, cli_in_section, place_grown}
 
 -- ---- the bytes of an old section
 
--- A range of an old section stays, where it doesn't meet the changed fields of the CLI header.
-same_bytes : (b : List ℕ) (a : ℕ) (h : Headers) (at : ℕ) (cli : CliHeader) (section out : List ℕ) (g : Growth) → Setting b a h at cli section out g → (rva m n : ℕ) (u t : Section) → section_of b h rva m ≡ Some u → IsMoved u t g.by → u.address ≤ rva → rva + n ≤ u.address + u.raw_size → (rva + n ≤ cli_rva b h + 8) ⊎ (cli_rva b h + 40 ≤ rva) → part out (place_in t rva) n ≡ part b (place_in u rva) n
-same_bytes b a h at cli section out g s rva m zero u t found moved low high apart = refl
-same_bytes b a h at cli section out g s rva m (suc n) u t found moved low high apart =
+-- The fields of the CLI header between the flags and the strong name stay.
+between_fields : (b : List ℕ) (a : ℕ) (h : Headers) (at : ℕ) (cli : CliHeader) (section out : List ℕ) (g : Growth) → Setting b a h at cli section out g → (p n : ℕ) → at + 20 ≤ p → p + n ≤ at + 32 → part out (p + g.by) n ≡ part b p n
+between_fields b a h at cli section out g s p n low high =
+    let k = p - (at + 20) in
+    let new : p + g.by ≡ at + g.by + 20 + k = omega arith in
+    let old : at + 20 + k ≡ p = omega arith in
+    ap (λ (q : ℕ). part out q n) new
+    ∙ within out (part b (at + 20) 12) (at + g.by + 20) 12 k n (pieces b a h at cli section out g s).header.entry (omega arith)
+    ∙ inner b (at + 20) 12 k n (omega arith)
+    ∙ ap (λ (q : ℕ). part b q n) old
+
+-- So do the old bytes behind the headers, where the CLI header doesn't change.
+kept_there : (b : List ℕ) (a : ℕ) (h : Headers) (at : ℕ) (cli : CliHeader) (section out : List ℕ) (g : Growth) → Setting b a h at cli section out g → (p n : ℕ) → headers_size b h ≤ p → p + n ≤ length b → Misses at p n → part out (p + g.by) n ≡ part b p n
+kept_there b a h at cli section out g s p n low high misses = elim misses [
+  | inl before ↦ other (inl before)
+  | inr later ↦ elim later [ inl middle ↦ between_fields b a h at cli section out g s p n middle.0 middle.1 | inr after ↦ other (inr after) ]
+]
+  where
+    other : (p + n ≤ at + 8) ⊎ (at + 40 ≤ p) → part out (p + g.by) n ≡ part b p n
+    other apart = ap (λ (x : List ℕ). part x (p + g.by) n) s.out_is ∙ kept_bytes b h at cli section g s.sizes p n low high apart
+
+-- what the RVAs of a section miss, so do their places in the file
+misses_place : (u : Section) (header rva n : ℕ) → u.address ≤ header → u.address ≤ rva → Misses header rva n → Misses (place_in u header) (place_in u rva) n
+misses_place u header rva n low1 low2 misses = elim misses [
+  | inl before ↦ inl (omega arith)
+  | inr later ↦ elim later [ inl middle ↦ inr (inl (omega (arith, middle.0), omega (arith, middle.1))) | inr after ↦ inr (inr (omega arith)) ]
+]
+
+-- A range of an old section stays, where it doesn't meet the fields of the CLI header that change.
+same_bytes : (b : List ℕ) (a : ℕ) (h : Headers) (at : ℕ) (cli : CliHeader) (section out : List ℕ) (g : Growth) → Setting b a h at cli section out g → (rva m n : ℕ) (u t : Section) → section_of b h rva m ≡ Some u → IsMoved u t g.by → u.address ≤ rva → rva + n ≤ u.address + u.raw_size → Misses (cli_rva b h) rva n → part out (place_in t rva) n ≡ part b (place_in u rva) n
+same_bytes b a h at cli section out g s rva m zero u t found moved low high misses = refl
+same_bytes b a h at cli section out g s rva m (suc n) u t found moved low high misses =
     let size = headers_size b h in
     let c = old_cli b a h at cli section out g s in
     let inside = cli_in_section b a h at cli section out g s in
@@ -33,14 +62,14 @@ same_bytes b a h at cli section out g s rva m (suc n) u t found moved low high a
     let more : 0 < c.section.raw_size = omega (arith, inside.0, inside.1) in
     let floor : size ≤ u.raw_at = behind_floor (holds rva m) b a size size h.sections h.count u s.order.sections found some in
     let end : raw_end u ≤ length b = (found_in (holds rva m) b a size size h.sections h.count u s.order.sections found).within some in
-    ap (λ (x : List ℕ). part x (place_in t rva) (suc n)) s.out_is
-    ∙ ap (λ (k : ℕ). part (grown b h at cli section g) k (suc n)) (place_grown u t g.by rva moved some)
-    ∙ kept_bytes b h at cli section g s.sizes (place_in u rva) (suc n) (omega arith) (omega arith) (elim (found_apart (holds rva m) (holds (cli_rva b h) 72) b a size size h.sections h.count u c.section s.order.sections found c.found some more) [
-      | inl same ↦ (let e1 : u.raw_at ≡ c.section.raw_at = ap (λ (x : Section). x.raw_at) same in
-          let e2 : u.address ≡ c.section.address = ap (λ (x : Section). x.address) same in
-          elim apart [ inl before ↦ inl (omega (arith, inside.0)) | inr after ↦ inr (omega (arith, inside.0)) ])
-      | inr other ↦ elim other [ inl before ↦ inl (omega (arith, inside.0)) | inr after ↦ inr (omega (arith, inside.0, inside.1)) ]
-    ])
+    let there : Misses at (place_in u rva) (suc n) = elim (found_apart (holds rva m) (holds (cli_rva b h) 72) b a size size h.sections h.count u c.section s.order.sections found c.found some more) [
+      | inl same ↦ (let low_cli : u.address ≤ cli_rva b h = subst (λ (x : Section). x.address ≤ cli_rva b h) (sym same) inside.0 in
+          let at_is : at ≡ place_in u (cli_rva b h) = place ∙ ap (λ (x : Section). place_in x (cli_rva b h)) (sym same) in
+          subst (λ (k : ℕ). Misses k (place_in u rva) (suc n)) (sym at_is) (misses_place u (cli_rva b h) rva (suc n) low_cli low misses))
+      | inr other ↦ elim other [ inl before ↦ inl (omega (arith, inside.0)) | inr after ↦ inr (inr (omega (arith, inside.0, inside.1))) ]
+    ] in
+    ap (λ (k : ℕ). part out k (suc n)) (place_grown u t g.by rva moved some)
+    ∙ kept_there b a h at cli section out g s (place_in u rva) (suc n) (omega arith) (omega arith) there
 
 -- ---- what is found
 
@@ -72,32 +101,41 @@ out_found : (b : List ℕ) (a : ℕ) (h : Headers) (at : ℕ) (cli : CliHeader) 
 out_found b a h at cli section out g s rva n u e =
     found_grown rva n b out g.by h.sections h.count (new_section (length section) g) u (table b a h at cli section out g s) e
 
-pub old_rva : (b : List ℕ) (a : ℕ) (h : Headers) (at : ℕ) (cli : CliHeader) (section out : List ℕ) (g : Growth) → Setting b a h at cli section out g → (rva n : ℕ) (x : List ℕ) → at_rva b rva n ≡ Some x → (rva + n ≤ cli_rva b h + 8) ⊎ (cli_rva b h + 40 ≤ rva) → at_rva out rva n ≡ Some x
-old_rva b a h at cli section out g s rva n x e apart =
+pub old_rva : (b : List ℕ) (a : ℕ) (h : Headers) (at : ℕ) (cli : CliHeader) (section out : List ℕ) (g : Growth) → Setting b a h at cli section out g → (rva n : ℕ) (x : List ℕ) → at_rva b rva n ≡ Some x → Misses (cli_rva b h) rva n → at_rva out rva n ≡ Some x
+old_rva b a h at cli section out g s rva n x e misses =
     let m = mapped (λ (u : Section). part b (place_in u rva) n) (section_of b (headers_of b) rva n) x e in
     let found : section_of b h rva n ≡ Some m.section = old_section b a h at cli section out g s rva n ∙ m.is in
     let t = out_found b a h at cli section out g s rva n m.section found in
     let both = holds_true rva n m.section (find_meets (holds rva n) (sections_of b h) m.section found) in
     ap (option_map (λ (u : Section). part out (place_in u rva) n)) (out_section b a h at cli section out g s rva n ∙ t.found)
-    ∙ ap Some (same_bytes b a h at cli section out g s rva n n m.section t.section found t.moved both.0 both.1 apart ∙ m.value)
+    ∙ ap Some (same_bytes b a h at cli section out g s rva n n m.section t.section found t.moved both.0 both.1 misses ∙ m.value)
 
-pub old_tail : (b : List ℕ) (a : ℕ) (h : Headers) (at : ℕ) (cli : CliHeader) (section out : List ℕ) (g : Growth) → Setting b a h at cli section out g → (rva : ℕ) (x : List ℕ) → tail_at b rva ≡ Some x → (rva + length x ≤ cli_rva b h + 8) ⊎ (cli_rva b h + 40 ≤ rva) → tail_at out rva ≡ Some x
-old_tail b a h at cli section out g s rva x e apart =
+pub old_tail : (b : List ℕ) (a : ℕ) (h : Headers) (at : ℕ) (cli : CliHeader) (section out : List ℕ) (g : Growth) → Setting b a h at cli section out g → (rva n : ℕ) (x : List ℕ) → tail_at b rva ≡ Some x → n ≤ length x → Misses (cli_rva b h) rva n → SameFront x n (tail_at out rva)
+old_tail b a h at cli section out g s rva n x e fits misses =
     let size = headers_size b h in
-    let m = mapped (λ (u : Section). part b (place_in u rva) (u.address + u.raw_size - rva)) (section_of b (headers_of b) rva 1) x e in
-    let u = m.section in
-    let found : section_of b h rva 1 ≡ Some u = old_section b a h at cli section out g s rva 1 ∙ m.is in
+    let k = numbers b a h at cli section out g s in
+    let f = mapped (λ (v : Section). part b (place_in v rva) (v.address + v.raw_size - rva)) (section_of b (headers_of b) rva 1) x e in
+    let u = f.section in
+    let found : section_of b h rva 1 ≡ Some u = old_section b a h at cli section out g s rva 1 ∙ f.is in
     let t = out_found b a h at cli section out g s rva 1 u found in
     let both = holds_true rva 1 u (find_meets (holds rva 1) (sections_of b h) u found) in
     let some : 0 < u.raw_size = omega (arith, both.0, both.1) in
     let end : raw_end u ≤ length b = (found_in (holds rva 1) b a size size h.sections h.count u s.order.sections found).within some in
-    let n = u.address + u.raw_size - rva in
-    let long : length (part b (place_in u rva) n) ≡ n = length-take-le n (drop (place_in u rva) b) (omega (arith, length-drop (place_in u rva) b, both.0, both.1)) in
-    let same_long : length x ≡ n = ap length (sym m.value) ∙ long in
-    let apart_n : (rva + n ≤ cli_rva b h + 8) ⊎ (cli_rva b h + 40 ≤ rva) = subst (λ (k : ℕ). (rva + k ≤ cli_rva b h + 8) ⊎ (cli_rva b h + 40 ≤ rva)) same_long apart in
+    let m = u.address + u.raw_size - rva in
+    let place = place_grown u t.section g.by rva t.moved some in
+    let old_long : length (part b (place_in u rva) m) ≡ m = length-take-le m (drop (place_in u rva) b) (omega (arith, length-drop (place_in u rva) b, both.0, both.1)) in
+    let new_long : length (part out (place_in t.section rva) m) ≡ m = length-take-le m (drop (place_in t.section rva) out) (omega (arith, place, length-drop (place_in t.section rva) out, both.0, both.1)) in
+    let same_long : length x ≡ m = ap length (sym f.value) ∙ old_long in
+    let now : tail_at out rva ≡ Some (part out (place_in t.section rva) m) =
     ap (option_map (λ (v : Section). part out (place_in v rva) (v.address + v.raw_size - rva))) (out_section b a h at cli section out g s rva 1 ∙ t.found)
-    ∙ ap (λ (v : Section). Some (part out (place_in t.section rva) (v.address + v.raw_size - rva))) t.moved.rest
-    ∙ ap Some (same_bytes b a h at cli section out g s rva 1 n u t.section found t.moved both.0 (omega (arith, both.0, both.1)) apart_n ∙ m.value)
+    ∙ ap (λ (v : Section). Some (part out (place_in t.section rva) (v.address + v.raw_size - rva))) t.moved.rest in
+    subst (SameFront x n) (sym now) (
+      new_long ∙ sym same_long,
+      take-take n m (drop (place_in t.section rva) out) (omega arith)
+          ∙ same_bytes b a h at cli section out g s rva 1 n u t.section found t.moved both.0 (omega (arith, both.0, both.1)) misses
+          ∙ sym (take-take n m (drop (place_in u rva) b) (omega arith))
+          ∙ ap (take n) f.value,
+    )
 
 -- ---- the new section
 
