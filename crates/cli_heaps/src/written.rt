@@ -5,7 +5,8 @@ ghost use Rattle.cil_base.specs.Numbers.{num};
 ghost use Rattle.cil_base.specs.Refusals.{OnRefused, NoneBroken, Fails, first_of};
 ghost use Rattle.cli_heaps.specs.Root.{Metadata, first_header, version_length, name_width, stream_bytes, is_named, first_named, streams, strings, blobs, users, guids};
 ghost use Rattle.cli_heaps.specs.RootRules.{root_cut};
-ghost use Rattle.cli_heaps.specs.Growth.{Growths, full, grown_length, KeepsUsers};
+ghost use Rattle.cli_heaps.specs.Growth.{Growths, full, grown_length, AllRead, KeepsUsers};
+ghost use Rattle.cli_heaps.specs.Entries.{string_at, blob_at};
 ghost use Rattle.cli_heaps.specs.Written.{zeros, fill, filled, two_bytes, four_bytes, Part, Known, grown_known, new_bytes, old_part, missing, all_missing, parts, ended, headers, headers_size, bodies, headers_end, first_body, written, limit_test, limits, limit_tests, GrewFrom, IsWritten, EntriesRead};
 
 use crate::builder::HeapBuilder;
@@ -156,6 +157,7 @@ fn all_parts<'a>(
 ) -> Result<Vec<Part<'a>>, AllocError>
     ensures parts { IfOk result (λ v. v.items ≡ parts heaps.now.bytes grown.now tables.now) }
     ensures users { OnOk result (KeepsUsers grown.now.users) }
+    ensures read { OnOk result (AllRead string_at grown.now.strings × AllRead blob_at grown.now.blobs × AllRead blob_at grown.now.users) }
 {
     let mut parts = old_parts(alloc, heaps, grown, tables)?;
     let added = grown.strings_added();
