@@ -33,4 +33,4 @@ pub returns-clause-ok : goal.returns-clause-ok
 returns-clause-ok c = is c
 
 pub returns-clause-entries : goal.returns-clause-entries
-returns-clause-entries c = entries_read c.args.heaps.now.bytes c.from_vec.result c.args.grown.now c.args.tables.now c.requires.grew (is c)
+returns-clause-entries c = entries_read c.args.heaps.now.bytes c.from_vec.result c.args.grown.now c.args.tables.now c.requires.grew c.in_ok-parts.ensures.read.0 c.in_ok-parts.ensures.read.1 c.in_ok-parts.ensures.read.2 (is c)
