@@ -1,11 +1,11 @@
 -- Pieces that stand in a list of bytes, and the numbers that they are read as.
-use Rattle.std.proofs.Common.{◌≡◌, ℕ, zero, suc, ◌+◌, ◌-◌, ◌*◌, ◌/◌, ◌%◌, ◌^◌, ◌<◌, ◌≤◌, eqb, Bool, true, false, cond, List, [], ◌∷◌, ◌++◌, length, drop, take, map, refl, sym, ap, ◌∙◌, subst, inl, inr, arith, add-one, append_assoc}
-use Rattle.std.specs.List.{flat_map, range_with_len}
+use Rattle.std.proofs.Common.{◌≡◌, ℕ, zero, suc, ◌+◌, ◌-◌, ◌*◌, ◌/◌, ◌%◌, ◌^◌, ◌<◌, ◌≤◌, eqb, Bool, true, false, cond, ltb, ◌&&◌, List, [], ◌∷◌, ◌++◌, length, get_or, drop, take, map, refl, sym, ap, ◌∙◌, subst, inl, inr, arith, add-one, append_assoc}
+use Rattle.std.specs.List.{flat_map, list_all, range_with_len}
 use Rattle.std.proofs.lemmas.List.{append-nil, length-append}
-use Rattle.std.proofs.lemmas.List.Folds.{flat_map-map}
-use Rattle.std.proofs.lemmas.List.FromFn.{map-range_with_len_more}
+use Rattle.std.proofs.lemmas.List.Folds.{flat_map-map, list_all_at}
+use Rattle.std.proofs.lemmas.List.FromFn.{map-range_with_len_more, length-range_with_len, get_or-range_with_len}
 use Rattle.std.proofs.lemmas.Grind.{flat_map-append}
-use Rattle.std.proofs.lemmas.Bool.{cases_lt}
+use Rattle.std.proofs.lemmas.Bool.{cases_lt, cases_Bool, lt-ltb}
 use Rattle.std.proofs.lemmas.Nat.{pow_pos, pow-add}
 use Rattle.std.proofs.Math.Seq.{drop-append_seam, take-append_seam}
 use Rattle.std.specs.Int.{w32, byte_at, bytes_low_first, to_le_bytes}
@@ -187,3 +187,23 @@ pub bits_no : (p : ℕ → Bool) (t bits next : ℕ) → bits ≡ bits_of p t �
 bits_no p t bits next e none f =
     let more : bits_of p (t + 1) ≡ bits_of p t + 0 = bits_more p t ∙ ap (λ (b : Bool). bits_of p t + cond b (2 ^ t) 0) none in
     omega (arith, e, f, more)
+
+-- ---- tests of all
+
+pub all_below : (xs : List ℕ) (n : ℕ) → ((k : ℕ) → get_or xs k 0 < n) → list_all (λ (x : ℕ). ltb x n) xs ≡ true
+all_below [] n h = refl
+all_below (x ∷ xs) n h = ap (λ (b : Bool). b && list_all (λ (y : ℕ). ltb y n) xs) (lt-ltb x n (h 0)) ∙ all_below xs n (λ k. h (suc k))
+
+pub all_at : (p : ℕ → Bool) (xs : List ℕ) (k : ℕ) → list_all p xs ≡ true → k < length xs → p (get_or xs k 0) ≡ true
+all_at p xs k all lt = elim (cases_Bool (p (get_or xs k 0))) [
+  | inl e ↦ e
+  | inr e ↦ absurd (apart (sym all ∙ list_all_at p xs k 0 lt e))
+]
+  where
+    apart : true ≡ false → ⊥
+    apart e = cc
+
+pub all_range : (p : ℕ → Bool) (n k : ℕ) → list_all p (range_with_len 0 n) ≡ true → k < n → p k ≡ true
+all_range p n k all lt =
+    let here : get_or (range_with_len 0 n) k 0 ≡ k = get_or-range_with_len 0 n k 0 lt ∙ omega arith in
+    ap p (sym here) ∙ all_at p (range_with_len 0 n) k all (omega (arith, lt, length-range_with_len 0 n))

@@ -1,24 +1,34 @@
 -- Tables that are written, read back.
-use Rattle.std.proofs.Common.{◌≡◌, ◌⊎◌, ℕ, zero, suc, ◌+◌, ◌-◌, ◌*◌, ◌/◌, ◌%◌, ◌^◌, ◌<◌, ◌≤◌, eqb, ◌&&◌, not, Bool, true, false, cond, List, [], ◌∷◌, ◌++◌, length, get_or, take, drop, map, replicate, refl, sym, ap, ◌∙◌, subst, inl, inr, arith, add-one, append_assoc}
-use Rattle.std.specs.Prelude.{sum_by}
-use Rattle.std.specs.List.{range_with_len}
+use Rattle.std.proofs.Common.{◌≡◌, ◌⊎◌, ℕ, zero, suc, ◌+◌, ◌-◌, ◌*◌, ◌/◌, ◌%◌, ◌^◌, ◌<◌, ◌≤◌, eqb, ltb, ◌&&◌, ◌||◌, not, Bool, true, false, cond, List, [], ◌∷◌, ◌++◌, length, get_or, take, drop, map, replicate, refl, sym, ap, ◌∙◌, subst, inl, inr, arith, add-one, append_assoc}
+use Rattle.std.specs.Prelude.{sum_by, Result, Ok, Err, IfOk, OnOk}
+use Rattle.std.proofs.lemmas.Result.{IfOk-weaker}
+use Rattle.std.specs.List.{list_all, range_with_len}
+use Rattle.std.proofs.Math.Nat.{pow-suc}
 use Rattle.std.proofs.lemmas.List.{append-nil, length-append, length-drop, length-take-le, length-replicate, take_all, get_or_past, nil_from_length}
 use Rattle.std.proofs.lemmas.List.FromFn.{get_or-map-range_with_len, length-map-range_with_len}
-use Rattle.std.proofs.lemmas.Bool.{cases_lt, cases_Bool, ltb-true, ltb-false, ne_eqb}
+use Rattle.std.proofs.lemmas.Bool.{cases_lt, cases_Bool, ltb-true, ltb-false, eq-eqb, ne_eqb}
 use Rattle.cil_base.specs.Numbers.{num}
+use Rattle.cil_base.specs.declared.refusal.Refusal.{Refusal}
+use Rattle.cil_base.specs.declared.refusal.Fault.{Fault}
+use Rattle.cil_base.specs.declared.refusal.Fault.TheVariants.{Refused, Memory}
+use Rattle.cil_base.specs.Refusals.{NoneBroken, Fails, OnRefused}
+use Rattle.cli_heaps.specs.Root as root
+use Rattle.cli_heaps.specs.Growth.{Growths}
+use Rattle.cli_heaps.specs.Written.{filled, IsWritten, limit_tests}
+use Rattle.cli_tables.specs.declared.schema.Column.TheVariants.{U8, U16, U32, StringIndex, GuidIndex, BlobIndex, Row, FirstRow, Coded}
 use Rattle.cli_tables.specs.declared.schema.Column.{Column}
 use Rattle.cli_tables.specs.declared.sizes.Sizes.{Sizes}
 use Rattle.cli_tables.specs.Schema.{columns_of}
 use Rattle.cli_tables.specs.Stream.{has_bit, has_table, tables_below, row_count, rows_start, counts_in, sizes_of, count_of, width_of, row_width, offset_of, bytes_below, kind_of, cell_in}
 use Rattle.cli_tables.specs.Layout.{row_end}
-use Rattle.cli_tables.specs.TableRules.{has_unread, is_unread}
-use Rattle.cli_tables.specs.Tables.{column_of, rows_of, rows_in, IsShaped, AreIn}
-use Rattle.cli_tables.specs.Written.{pieces, number_bytes, counts_to, has_rows, bits_of, heap_bits, header_bytes, count_bytes, cell_bytes, row_bytes, table_bytes, filled, stream_to, Fit, Holds}
-use Rattle.cli_tables.proofs.StreamLaws.{byte_at, counts_all}
+use Rattle.cli_tables.specs.TableRules.{has_unread, is_unread, is_one_assembly, HeaderBroken}
+use Rattle.cli_tables.specs.Tables.{column_of, rows_of, rows_in, limit_of, IsShaped, AreIn}
+use Rattle.cli_tables.specs.Written.{pieces, number_bytes, counts_to, has_rows, bits_of, heap_bits, header_bytes, count_bytes, cell_bytes, row_bytes, table_bytes, stream_to, Fit, Holds, is_index, column_fits, table_fits, indexes_fit, NoneFull, IsOverfull, AreOfOne, sizes_to, stream_in}
+use Rattle.cli_tables.proofs.StreamLaws.{byte_at, counts_all, start_ones}
 use Rattle.cli_tables.proofs.LayoutLaws.{offset_more}
 use Rattle.cli_tables.proofs.HeaderLaws.{none_range}
 use Rattle.cli_tables.proofs.ShapeLaws.{no_columns, is_read, cells_match}
-use Rattle.cli_tables.proofs.PieceLaws.{IsAt, pieces_none, pieces_suc, at_first, at_last, at_in, at_moved, at_equal, at_within, at_piece, at_number, at_byte, take_at, length_number, bits_small, bits_bit}
+use Rattle.cli_tables.proofs.PieceLaws.{IsAt, pieces_none, pieces_suc, at_first, at_last, at_in, at_moved, at_equal, at_within, at_piece, at_number, at_byte, take_at, all_at, all_range, length_number, bits_small, bits_bit}
 
 -- ---- counts
 
@@ -323,6 +333,7 @@ module _ (old : List ℕ) (sizes : Sizes) (tables : List (List (List ℕ))) (who
 
   pub holds : Holds old sizes tables (stream_to old sizes tables)
   holds = record {
+    bits = start_ones stream (omega (arith, valid_is, bits_small (has_rows sizes) 64));
     header = omega (arith, start_is, at_within stream rows (24 + length counts) rows_at);
     rows_whole = table_within;
     full = fills;
@@ -341,3 +352,91 @@ module _ (old : List ℕ) (sizes : Sizes) (tables : List (List (List ℕ))) (who
       let body : third ≡ header_bytes old sizes ++ pieces (count_bytes sizes) 64 ++ pieces (table_bytes sizes tables) 45 =
       g ∙ ap (λ (l : List ℕ). l ++ pieces (table_bytes sizes tables) 45) (f ∙ ap (λ (l : List ℕ). l ++ pieces (count_bytes sizes) 64) e) in
       subst (λ (l : List ℕ). Holds old sizes tables l) (sym (h ∙ ap (λ (l : List ℕ). filled l) body ∙ sym (stream_is old sizes tables))) holds
+
+-- ---- the whole metadata
+
+cell_fits : (s : Sizes) (k : Column) (v : ℕ) → v < limit_of k → (is_index k ≡ true → v < 256 ^ width_of s k) → v < 256 ^ width_of s k
+cell_fits s U8 v small h = small
+cell_fits s U16 v small h = small
+cell_fits s U32 v small h = small
+cell_fits s StringIndex v small h = h refl
+cell_fits s GuidIndex v small h = h refl
+cell_fits s BlobIndex v small h = h refl
+cell_fits s (Row t) v small h = h refl
+cell_fits s (FirstRow t) v small h = h refl
+cell_fits s (Coded k) v small h = h refl
+
+some_power : (w : ℕ) → 0 < 256 ^ w
+some_power zero = omega arith
+some_power (suc w) = omega (arith, some_power w, pow-suc 256 w)
+
+-- behind the end there is no number
+past_fits : (s : Sizes) (ts : List (List (List ℕ))) (t c k : ℕ) → length (column_of ts t c) ≤ k → get_or (column_of ts t c) k 0 < 256 ^ width_of s (kind_of t c)
+past_fits s ts t c k past = omega (arith, get_or_past (column_of ts t c) k 0 past, some_power (width_of s (kind_of t c)))
+
+here_fits : (s : Sizes) (ts : List (List (List ℕ))) (t c k : ℕ) → column_fits s ts t c ≡ true → k < length (column_of ts t c) → get_or (column_of ts t c) k 0 < limit_of (kind_of t c) → get_or (column_of ts t c) k 0 < 256 ^ width_of s (kind_of t c)
+here_fits s ts t c k h lt small =
+    cell_fits s (kind_of t c) (get_or (column_of ts t c) k 0) small (λ index.
+    ltb-true (get_or (column_of ts t c) k 0) (256 ^ width_of s (kind_of t c))
+    (all_at (λ (v : ℕ). ltb v (256 ^ width_of s (kind_of t c))) (column_of ts t c) k (sym (ap (λ (b : Bool). not b || list_all (λ (v : ℕ). ltb v (256 ^ width_of s (kind_of t c))) (column_of ts t c)) index) ∙ h) lt))
+
+pub all_fit : (s : Sizes) (ts : List (List (List ℕ))) (t c k : ℕ) → IsShaped ts → indexes_fit s ts ≡ true → get_or (column_of ts t c) k 0 < 256 ^ width_of s (kind_of t c)
+unfolding indexes_fit
+all_fit s ts t c k shape h = elim (cases_lt k (length (column_of ts t c))) [
+  | inl lt ↦ elim (cases_lt c (length (columns_of t))) [
+    | inl here ↦ here_fits s ts t c k (all_range (column_fits s ts t) (length (columns_of t)) c (all_range (table_fits s ts) 45 t h (is_read t c here)) here) lt (shape.fits t c k)
+    | inr out ↦
+        let none : length (column_of ts t c) ≡ 0 = ap (λ (l : List ℕ). length l) (get_or_past (get_or ts t []) c [] (omega (arith, out, shape.columns t))) in
+        absurd (omega (arith, none, lt))
+  ]
+  | inr past ↦ past_fits s ts t c k past
+]
+
+pub fit_of : (meta : List ℕ) (grown : Growths) (ts us : List (List (List ℕ))) (s : Sizes) → IsShaped ts → indexes_fit (sizes_to meta grown ts) ts ≡ true → s ≡ sizes_to meta grown ts → us ≡ ts → Fit s us
+fit_of meta grown ts us s shape h e f =
+    subst (λ (z : Sizes). Fit z us) (sym e) (subst (λ (l : List (List (List ℕ))). Fit (sizes_to meta grown ts) l) (sym f)
+    (record { counts = refl; cells = λ t c k. all_fit (sizes_to meta grown ts) ts t c k shape h }))
+
+pub none_full : (ts : List (List (List ℕ))) → IsShaped ts → ((t : ℕ) → t < 45 → rows_of ts t ≤ 2 ^ 24 - 1) → NoneFull ts
+none_full ts shape h t = elim (cases_lt t 45) [
+  | inl lt ↦ h t lt
+  | inr past ↦ omega (arith, no_rows ts t shape (ap (λ (ks : List Column). length ks) (no_columns t past)))
+]
+
+-- no rule of the header is broken where there is one Module and one Assembly row
+one_assembly : (meta old : List ℕ) (sizes : Sizes) (ts : List (List (List ℕ))) (a : ℕ) → Holds old sizes ts (root.tables meta) → AreOfOne ts → NoneBroken (HeaderBroken meta a)
+unfolding HeaderBroken
+one_assembly meta old sizes ts a h one r (inl (fails, e)) = absurd (apart (sym fails ∙ h.heaps))
+  where
+    apart : true ≡ false → ⊥
+    apart cc_is = cc
+one_assembly meta old sizes ts a h one r (inr (inl (fails, e))) =
+    absurd (apart (sym fails ∙ ap (λ (b : Bool). b || not (is_one_assembly (root.tables meta))) h.all_read ∙ ap (λ (b : Bool). not (b && eqb (rows_in (root.tables meta) 0x20) 1)) (eq-eqb (rows_in (root.tables meta) 0x00) 1 (sym (h.cells.rows 0x00) ∙ one.0))
+    ∙ ap (λ (b : Bool). not b) (eq-eqb (rows_in (root.tables meta) 0x20) 1 (sym (h.cells.rows 0x20) ∙ one.1))))
+  where
+    apart : true ≡ false → ⊥
+    apart cc_is = cc
+one_assembly meta old sizes ts a h one r (inr (inr none)) = none
+
+refused_also : (r : Result (List ℕ) Fault) (P Q : Refusal → Type 0) → OnRefused r Q → OnRefused r (λ x. P x ⊎ Q x)
+refused_also (Ok x) P Q h = tt
+refused_also (Err (Refused x)) P Q h = inr h
+refused_also (Err (Memory e)) P Q h = tt
+
+-- what the writer of the metadata answers for the stream of these tables
+module _ (r : Result (List ℕ) Fault) (meta old : List ℕ) (grown : Growths) (sizes : Sizes) (ts us : List (List (List ℕ))) (stream : List ℕ)
+    (o : old ≡ root.tables meta) (s : sizes ≡ sizes_to meta grown ts) (u : us ≡ ts) (b : stream ≡ stream_to old sizes us) where
+  stream_same : stream ≡ stream_in meta grown ts
+  stream_same =
+      b ∙ ap (λ (l : List ℕ). stream_to l sizes us) o ∙ ap (λ (z : Sizes). stream_to (root.tables meta) z us) s
+      ∙ ap (λ (l : List (List (List ℕ))). stream_to (root.tables meta) (sizes_to meta grown ts) l) u
+
+  pub header_kept : IfOk r (λ new. IsWritten meta grown stream new) → Holds old sizes us stream → IfOk r (λ new. AreOfOne ts → (assembly : ℕ) → NoneBroken (HeaderBroken new assembly))
+  header_kept ok h = IfOk-weaker r (λ new. IsWritten meta grown stream new) (λ new. AreOfOne ts → (assembly : ℕ) → NoneBroken (HeaderBroken new assembly))
+      (λ new w one a. one_assembly new old sizes us a (subst (λ (l : List ℕ). Holds old sizes us l) (sym w.tables_are) h) (subst AreOfOne (sym u) one)) ok
+
+  pub limits_kept : OnOk r (NoneBroken (Fails (limit_tests meta grown stream))) → OnOk r (NoneBroken (Fails (limit_tests meta grown (stream_in meta grown ts))))
+  limits_kept h = subst (λ (l : List ℕ). OnOk r (NoneBroken (Fails (limit_tests meta grown l)))) stream_same h
+
+  pub refused_kept : OnRefused r (Fails (limit_tests meta grown stream)) → OnRefused r (λ x. IsOverfull ts x ⊎ Fails (limit_tests meta grown (stream_in meta grown ts)) x)
+  refused_kept h = refused_also r (IsOverfull ts) (Fails (limit_tests meta grown (stream_in meta grown ts))) (subst (λ (l : List ℕ). OnRefused r (Fails (limit_tests meta grown l))) stream_same h)

@@ -1,14 +1,36 @@
 // The `#~` stream that tables are written to (ECMA-335, II.24.2.6).
-ghost use Rattle.std.specs.Prelude.{◌≡◌, ℕ, ◌+◌, ◌-◌, ◌%◌, ◌<◌, ◌≤◌, ◌++◌, [], length, replicate, get_or, slice_index, nat_lt, IfOk, OnOk, if◌then◌else◌};
+ghost use Rattle.std.specs.Prelude.{◌≡◌, ℕ, ◌+◌, ◌-◌, ◌%◌, ◌<◌, ◌≤◌, ◌++◌, [], length, replicate, get_or, slice_index, nat_lt, IsTrue, ◌^◌, IfOk, OnOk, if◌then◌else◌};
+ghost use Rattle.std.specs.List.{list_all};
 ghost use Rattle.cli_tables.specs.Schema.{columns_of};
-ghost use Rattle.cli_tables.specs.Stream.{count_of};
+ghost use Rattle.cli_tables.specs.Stream.{count_of, is_width};
 ghost use Rattle.cli_tables.specs.Tables.{IsShaped, rows_of};
-ghost use Rattle.cli_tables.specs.Written.{pieces, number_bytes, has_rows, bits_of, heap_bits, header_bytes, count_bytes, row_bytes, table_bytes, filled, stream_to, Fit, Holds};
+ghost use Rattle.cli_tables.specs.Written.{pieces, number_bytes, has_rows, bits_of, heap_bits, header_bytes, count_bytes, row_bytes, table_bytes, stream_to, Fit, Holds, is_index};
+ghost use Rattle.cli_heaps.specs.Written.{filled};
 
-use crate::schema::{TABLE_COUNT, columns};
+use crate::schema::{Column, TABLE_COUNT, columns};
 use crate::sizes::Sizes;
 use crate::table::Table;
+use lane_cols::all_at_most;
 use std::alloc::{AllocError, Global};
+
+/// Whether the column holds indexes.
+pub fn is_index(column: Column) -> bool
+    ensures { result ≡ is_index column }
+{
+    !matches!(column, Column::U8 | Column::U16 | Column::U32)
+}
+
+/// Whether each number fits so many bytes.
+pub fn fits_width(cells: &[u32], width: u8) -> bool
+    requires { IsTrue (is_width width) }
+    ensures { result ≡ list_all (λ value. nat_lt value (256 ^ width)) cells.now }
+{
+    match width {
+        1 => all_at_most(cells, 0xFF),
+        2 => all_at_most(cells, 0xFFFF),
+        _ => true,
+    }
+}
 
 /// Appends the lowest bytes of a number, the lowest first.
 #[tactic(auto, unfolding(crate::specs::Written::number_bytes))]
