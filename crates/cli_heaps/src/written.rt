@@ -327,6 +327,7 @@ pub fn write_metadata(
     requires whole { 24 + 4 * count_ones (num tables.now 8 8) ≤ length tables.now }
     requires full_words { length tables.now % 4 ≡ 0 }
     ensures ok { IfOk result (λ new. IsWritten heaps.now.bytes grown.now tables.now new) }
+    ensures bytes { IfOk result (λ new. new ≡ written heaps.now.bytes (parts heaps.now.bytes grown.now tables.now)) }
     ensures entries { IfOk result (λ new. EntriesRead heaps.now.bytes grown.now new) }
     ensures within { OnOk result (NoneBroken (Fails (limit_tests heaps.now.bytes grown.now tables.now))) }
     ensures refused { OnRefused result (Fails (limit_tests heaps.now.bytes grown.now tables.now)) }
