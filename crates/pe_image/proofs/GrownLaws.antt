@@ -19,17 +19,17 @@ use Rattle.pe_image.specs.Written.{between, zeros, two_bytes, four_bytes, front,
 
 -- ---- parts of lists
 
-skip : (x y : List ℕ) (at n : ℕ) → length x ≤ at → part (x ++ y) at n ≡ part y (at - length x) n
+pub skip : (x y : List ℕ) (at n : ℕ) → length x ≤ at → part (x ++ y) at n ≡ part y (at - length x) n
 skip x y at n le =
     let e : at ≡ length x + (at - length x) = omega arith in
     ap (take n) (ap (λ (k : ℕ). drop k (x ++ y)) e ∙ drop-append-add x y (at - length x))
 
-stay : (x y : List ℕ) (at n : ℕ) → at + n ≤ length x → part (x ++ y) at n ≡ part x at n
+pub stay : (x y : List ℕ) (at n : ℕ) → at + n ≤ length x → part (x ++ y) at n ≡ part x at n
 stay x y at n le =
     ap (take n) (drop-append-le at x y (omega arith))
     ∙ take-append-le n (drop at x) y (omega (arith, length-drop at x))
 
-inner : (b : List ℕ) (from len k n : ℕ) → k + n ≤ len → part (part b from len) k n ≡ part b (from + k) n
+pub inner : (b : List ℕ) (from len k n : ℕ) → k + n ≤ len → part (part b from len) k n ≡ part b (from + k) n
 inner b from len k n le =
     let e : len ≡ k + (len - k) = omega arith in
     ap (λ (m : ℕ). take n (drop k (take m (drop from b)))) e
@@ -37,20 +37,20 @@ inner b from len k n le =
     ∙ take-take n (len - k) (drop k (drop from b)) (omega arith)
     ∙ ap (take n) (drop-drop k from b)
 
-len_between : (b : List ℕ) (from to : ℕ) → from ≤ to → to ≤ length b → length (between b from to) ≡ to - from
+pub len_between : (b : List ℕ) (from to : ℕ) → from ≤ to → to ≤ length b → length (between b from to) ≡ to - from
 len_between b from to le within = length-take-le (to - from) (drop from b) (omega (arith, length-drop from b))
 
-len_two : (n : ℕ) → length (two_bytes n) ≡ 2
+pub len_two : (n : ℕ) → length (two_bytes n) ≡ 2
 unfolding two_bytes
 len_two n = refl
 
-len_four : (n : ℕ) → length (four_bytes n) ≡ 4
+pub len_four : (n : ℕ) → length (four_bytes n) ≡ 4
 unfolding four_bytes
 len_four n = refl
 
 -- ---- how long the parts are
 
-front_length : (bytes : List ℕ) (h : Headers) (g : Growth) → Fit h → table_end h ≤ length bytes → length (concat (front bytes h g)) ≡ h.sections
+pub front_length : (bytes : List ℕ) (h : Headers) (g : Growth) → Fit h → table_end h ≤ length bytes → length (concat (front bytes h g)) ≡ h.sections
 front_length bytes h g fit whole =
     let near = fit.near in
     let far = fit.far in
@@ -68,7 +68,7 @@ front_length bytes h g fit whole =
     let l13 : length (between bytes (d + 56) h.sections) ≡ h.sections - (d + 56) = len_between bytes (d + 56) h.sections (omega arith) (omega arith) in
     simp (length-append, l1, l2, l3, l4, l5, l6, l7, l8, l9, l11, l13) (omega arith)
 
-moved_length : (bytes : List ℕ) (by at n : ℕ) → at + 40 * n ≤ length bytes → length (moved_headers bytes by at n) ≡ 40 * n
+pub moved_length : (bytes : List ℕ) (by at n : ℕ) → at + 40 * n ≤ length bytes → length (moved_headers bytes by at n) ≡ 40 * n
 moved_length bytes by at zero le = refl
 moved_length bytes by at (suc n) le =
     let l1 : length (between bytes at (at + 20)) ≡ 20 = len_between bytes at (at + 20) (omega arith) (omega arith) ∙ omega arith in
@@ -77,7 +77,7 @@ moved_length bytes by at (suc n) le =
     let rest : length (moved_headers bytes by (at + 40) n) ≡ 40 * n = moved_length bytes by (at + 40) n (omega arith) in
     simp (length-append, l1, l2, l3, rest) (omega arith)
 
-header_length : (len : ℕ) (g : Growth) → length (concat (new_header len g)) ≡ 40
+pub header_length : (len : ℕ) (g : Growth) → length (concat (new_header len g)) ≡ 40
 header_length len g =
     let l1 : length (four_bytes len) ≡ 4 = len_four len in
     let l2 : length (four_bytes g.address) ≡ 4 = len_four g.address in
@@ -98,7 +98,7 @@ pub record Sizes (bytes : List ℕ) (h : Headers) (cli_at : ℕ) (len : ℕ) (g 
   pub raw_at : length bytes + g.by ≤ g.raw_at
   pub raw_size : len ≤ g.raw_size
 
-by_test : (b : Bool) (m n : ℕ) → leb m n ≡ b → (m ≤ n) ⊎ (n < m)
+pub by_test : (b : Bool) (m n : ℕ) → leb m n ≡ b → (m ≤ n) ⊎ (n < m)
 by_test true m n e = inl (leb-true m n e)
 by_test false m n e = inr (leb-false m n e)
 
@@ -108,7 +108,7 @@ gap_length bytes end size within = elim (by_test (leb end size) end size refl) [
   | inr gt ↦ (let none : size - end ≡ 0 = omega arith in ap (λ (n : ℕ). length (take n (drop end bytes))) none ∙ sym none)
 ]
 
-front_grown : (bytes : List ℕ) (h : Headers) (cli_at len : ℕ) (g : Growth) → Sizes bytes h cli_at len g → length (grown_front bytes h g len) ≡ g.headers_size
+pub front_grown : (bytes : List ℕ) (h : Headers) (cli_at len : ℕ) (g : Growth) → Sizes bytes h cli_at len g → length (grown_front bytes h g len) ≡ g.headers_size
 front_grown bytes h cli_at len g s =
     let size = headers_size bytes h in
     let end = table_end h + 40 in
@@ -152,7 +152,7 @@ kept_is bytes size cli_at cli =
     regroup : (a b c d e f g : List ℕ) → a ++ (b ++ (c ++ (d ++ (e ++ (f ++ (g ++ [])))))) ≡ a ++ ((b ++ (c ++ (d ++ (e ++ f)))) ++ g)
     regroup a b c d e f g = simp (append_assoc, append-nil)
 
-kept_length : (bytes : List ℕ) (size cli_at : ℕ) (cli : CliHeader) → size ≤ cli_at → cli_at + 72 ≤ length bytes → length (concat (kept bytes size cli_at cli)) ≡ length bytes - size
+pub kept_length : (bytes : List ℕ) (size cli_at : ℕ) (cli : CliHeader) → size ≤ cli_at → cli_at + 72 ≤ length bytes → length (concat (kept bytes size cli_at cli)) ≡ length bytes - size
 kept_length bytes size cli_at cli behind here =
     let a = between bytes size (cli_at + 8) in
     let m = cli_middle bytes cli_at cli in
@@ -193,7 +193,7 @@ before_cli bytes size cli_at cli at n behind here low before =
 
 -- ---- where the old bytes and the new section stand
 
-in_first : (a b c d : List ℕ) (at n : ℕ) → at + n ≤ length a → part (a ++ b ++ c ++ d) at n ≡ part a at n
+pub in_first : (a b c d : List ℕ) (at n : ℕ) → at + n ≤ length a → part (a ++ b ++ c ++ d) at n ≡ part a at n
 in_first a b c d at n le =
     stay (a ++ b ++ c) d at n (omega (arith, length-append (a ++ b) c, length-append a b))
     ∙ stay (a ++ b) c at n (omega (arith, length-append a b))

@@ -4,3 +4,8 @@ pub mod ImageLaws
 pub mod GrowthLaws
 pub mod GrownLaws
 pub mod WrittenLaws
+pub mod PieceLaws
+pub mod FrontLaws
+pub mod FieldLaws
+pub mod TableLaws
+pub mod AcceptLaws

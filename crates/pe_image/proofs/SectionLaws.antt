@@ -32,7 +32,7 @@ tests_cut bytes a address_floor raw_floor at n m e past = rw (e, lt-leb (at + 40
 
 -- ---- a table whose sections are in order is whole
 
-none_of : (t : Test) (ts : List Test) → first_of (t ∷ ts) ≡ None → (t.fails ≡ false) × (first_of ts ≡ None)
+pub none_of : (t : Test) (ts : List Test) → first_of (t ∷ ts) ≡ None → (t.fails ≡ false) × (first_of ts ≡ None)
 none_of t ts e = go t.fails refl
   where
     go : (b : Bool) → t.fails ≡ b → (t.fails ≡ false) × (first_of ts ≡ None)
@@ -102,7 +102,7 @@ pub record Found (p : Section → Bool) (bytes : List ℕ) (s : Section) : Type 
   pub meets : p s ≡ true
   pub within : 0 < s.raw_size → raw_end s ≤ length bytes
 
-misplaced_not : (bytes : List ℕ) (f g : ℕ) (s : Section) → is_misplaced bytes f g s ≡ false → 0 < s.raw_size → raw_end s ≤ length bytes
+pub misplaced_not : (bytes : List ℕ) (f g : ℕ) (s : Section) → is_misplaced bytes f g s ≡ false → 0 < s.raw_size → raw_end s ≤ length bytes
 misplaced_not bytes f g s e some = go (ltb s.address f) (ltb 0 s.raw_size) (ltb s.raw_at g) (leb (raw_end s) (length bytes)) e (lt-ltb 0 s.raw_size some) (leb-true (raw_end s) (length bytes))
   where
     go : (p q r t : Bool) → (p || (q && (r || not t))) ≡ false → q ≡ true → (t ≡ true → raw_end s ≤ length bytes) → raw_end s ≤ length bytes
@@ -112,7 +112,7 @@ misplaced_not bytes f g s e some = go (ltb s.address f) (ltb 0 s.raw_size) (ltb 
     go false true true false e h k = absurd cc
     go false true false false e h k = absurd cc
 
-none_after : (bytes : List ℕ) (a f g at n : ℕ) → first_of (section_tests bytes a f g at (suc n)) ≡ None → (is_misplaced bytes f g (section_at bytes at) ≡ false) × (first_of (section_tests bytes a (address_end (section_at bytes at)) (cond (nat_lt 0 (section_at bytes at).raw_size) (raw_end (section_at bytes at)) g) (at + 40) n) ≡ None)
+pub none_after : (bytes : List ℕ) (a f g at n : ℕ) → first_of (section_tests bytes a f g at (suc n)) ≡ None → (is_misplaced bytes f g (section_at bytes at) ≡ false) × (first_of (section_tests bytes a (address_end (section_at bytes at)) (cond (nat_lt 0 (section_at bytes at).raw_size) (raw_end (section_at bytes at)) g) (at + 40) n) ≡ None)
 none_after bytes a f g at n e = go (leb (at + 40) (length bytes)) refl
   where
     go : (b : Bool) → leb (at + 40) (length bytes) ≡ b → (is_misplaced bytes f g (section_at bytes at) ≡ false) × (first_of (section_tests bytes a (address_end (section_at bytes at)) (cond (nat_lt 0 (section_at bytes at).raw_size) (raw_end (section_at bytes at)) g) (at + 40) n) ≡ None)
@@ -160,7 +160,7 @@ each_within bytes a f g at (suc n) zero q e h same =
 each_within bytes a f g at (suc n) (suc i) q e h same =
     each_within bytes a (address_end (section_at bytes at)) (cond (nat_lt 0 (section_at bytes at).raw_size) (raw_end (section_at bytes at)) g) (at + 40) n i q (none_after bytes a f g at n e).1 (omega arith) (omega arith)
 
-floor_not : (bytes : List ℕ) (f g : ℕ) (s : Section) → is_misplaced bytes f g s ≡ false → 0 < s.raw_size → g ≤ s.raw_at
+pub floor_not : (bytes : List ℕ) (f g : ℕ) (s : Section) → is_misplaced bytes f g s ≡ false → 0 < s.raw_size → g ≤ s.raw_at
 floor_not bytes f g s e some = go (ltb s.address f) (ltb 0 s.raw_size) (ltb s.raw_at g) (leb (raw_end s) (length bytes)) e (lt-ltb 0 s.raw_size some) (ltb-false s.raw_at g)
   where
     go : (p q r t : Bool) → (p || (q && (r || not t))) ≡ false → q ≡ true → (r ≡ false → g ≤ s.raw_at) → g ≤ s.raw_at
