@@ -1,0 +1,3 @@
+mod SizeLaws
+mod HeaderLaws
+mod SampleLaws

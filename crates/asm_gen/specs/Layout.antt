@@ -91,7 +91,7 @@ section_table len = concat (text_header len) ++ concat (resource_header len) ++ 
 
 -- 0x200 bytes
 unfoldable pub headers : ℕ → ℕ → List ℕ
-headers len entry = concat dos_header ++ concat (coff_header entry) ++ optional_header len ++ section_table len ++ zeros 8
+headers len entry = concat dos_header ++ concat (coff_header entry) ++ optional_header len ++ section_table len ++ zeros 16
 
 -- II.25.3.3: runtime 2.5, the metadata behind the code, IL only
 abbrev pub cli_header : ℕ → ℕ → ℕ → List (List ℕ)

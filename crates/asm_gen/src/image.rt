@@ -262,7 +262,7 @@ fn push_headers(out: &mut Vec<u8>, sizes: &Sizes, entry: u32) -> Result<(), Allo
     push_coff_header(out, entry)?;
     push_optional_header(out, sizes)?;
     push_section_table(out, sizes)?;
-    push_zeros(out, 8)
+    push_zeros(out, 16)
 }
 
 fn push_cli_header(

@@ -10,3 +10,4 @@ pub mod FitLaws
 pub mod ShapeLaws
 pub mod GrowthLaws
 pub mod SetLaws
+pub mod BlankLaws

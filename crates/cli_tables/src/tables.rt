@@ -1,16 +1,16 @@
 // The tables of an assembly (ECMA-335, II.22).
-ghost use Rattle.std.specs.Prelude.{◌≡◌, ◌+◌, ◌-◌, ◌<◌, ◌≤◌, ◌^◌, ◌↔◌, length, map, IsSome, IfOk, OnOk, OnErr, true};
+ghost use Rattle.std.specs.Prelude.{◌≡◌, ◌+◌, ◌-◌, ◌<◌, ◌≤◌, ◌^◌, ◌↔◌, length, map, ℕ, IsSome, IfOk, OnOk, OnErr, true};
 ghost use Rattle.cil_base.specs.Refusals.{First, NoneBroken, InTurn, OnRefused};
 ghost use Rattle.cli_heaps.specs.Root.{tables};
 ghost use Rattle.cli_tables.specs.TableRules.{HeaderBroken, RowsBroken};
 ghost use Rattle.lane_cols.specs.Places.{places};
 ghost use Rattle.cli_tables.specs.Schema.{columns_of};
-ghost use Rattle.cli_tables.specs.Tables.{column_of, rows_of, cell_of, HasCell, IsShaped, AreIn, IsRow, IsAppended, IsSet, fits_column, rows_with};
+ghost use Rattle.cli_tables.specs.Tables.{column_of, rows_of, cell_of, HasCell, IsShaped, AreIn, IsRow, IsAppended, IsSet, fits_column, rows_with, blank_tables};
 ghost use Rattle.cli_tables.specs.Stream.{kind_of};
 ghost use Rattle.cli_tables.specs.Growth.{table_full};
 
 use crate::header::first_in_header;
-use crate::reading::read_tables;
+use crate::reading::{blank_tables, read_tables};
 use crate::sizes::{read_sizes, rows_start_of};
 use crate::table::Table;
 use cil_base::{Fault, Refusal, Rule, U32s};
@@ -58,6 +58,16 @@ impl Tables {
             Ok(tables) => Ok(Tables { tables }),
             Err(fault) => Err(fault),
         }
+    }
+
+    /// Tables without rows, to be appended to.
+    pub fn blank(alloc: Global) -> Result<Tables, AllocError>
+        ensures blank { IfOk result (λ t. t ≡ blank_tables) }
+        ensures rows { (table : ℕ) → IfOk result (λ t. rows_of t table ≡ 0) }
+    {
+        Ok(Tables {
+            tables: blank_tables(alloc)?,
+        })
     }
 
     /// How many rows a table has; none where it is not read.
