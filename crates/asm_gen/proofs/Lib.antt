@@ -1,3 +1,4 @@
-mod SizeLaws
-mod HeaderLaws
-mod SampleLaws
+pub mod SizeLaws
+pub mod HeaderLaws
+pub mod SampleLaws
+pub mod BlankLaws

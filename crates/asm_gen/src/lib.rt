@@ -1,5 +1,6 @@
 //! Assemblies made from rows, heap entries and code.
 #![tactic(auto)]
 
+mod blank;
 mod image;
 mod numbers;
