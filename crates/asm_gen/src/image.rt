@@ -12,10 +12,10 @@ use sqlite_items::Items;
 use std::alloc::{AllocError, Global};
 
 /// The RVA of the first code, behind the CLI header.
-const CODE_ADDRESS: u32 = 0x2048;
+pub const CODE_ADDRESS: u32 = 0x2048;
 
 /// The most bytes of an image.
-const SIZE_LIMIT: u32 = 1 << 27;
+pub const SIZE_LIMIT: u32 = 1 << 27;
 
 /// The sizes of an image whose code and metadata have so many bytes together.
 #[derive(Clone, Copy)]
@@ -51,7 +51,7 @@ impl Sizes {
     }
 }
 
-fn too_long() -> Refusal
+pub fn too_long() -> Refusal
     ensures { result ≡ too_long }
 {
     Refusal {

@@ -2,5 +2,8 @@
 #![tactic(auto)]
 
 mod blank;
+mod builder;
 mod image;
 mod numbers;
+
+pub use builder::Builder;
