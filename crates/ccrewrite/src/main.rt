@@ -2,6 +2,7 @@
 #![tactic(auto)]
 
 mod program;
+mod rewrite;
 mod splice;
 mod text;
 mod words;

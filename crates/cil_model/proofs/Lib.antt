@@ -1,2 +1,4 @@
 pub mod OpcodeLaws
 mod MethodListLaws
+mod PrintLaws
+mod TextLaws

@@ -8,3 +8,4 @@ pub mod NoContracts
 pub mod MethodLists
 pub mod Programs
 pub mod Texts
+pub mod Printed

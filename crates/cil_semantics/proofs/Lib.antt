@@ -3,3 +3,5 @@ pub mod RowLaws
 pub mod MoreRowLaws
 pub mod PartLaws
 pub mod SplicedRowLaws
+mod GrowthLaws
+mod SameLaws

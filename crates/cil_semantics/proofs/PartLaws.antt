@@ -1,18 +1,18 @@
 -- A call with contracts goes by its parts.
-use Rattle.std.proofs.Common.{◌≡◌, ◌≢◌, ℕ, ◌+◌, Bool, true, false, List, [], ◌∷◌, refl, ap, ◌∙◌, ◌==◌, if◌then◌else◌, eq-eqb}
+use Rattle.std.proofs.Common.{◌≡◌, ℕ, ◌+◌, Bool, true, false, List, refl, ap, ◌∙◌, ◌==◌, if◌then◌else◌, eq-eqb}
 use Rattle.std.proofs.lemmas.Bool.{ne_eqb}
-use Rattle.std.specs.Prelude.{Option, Some, None}
+use Rattle.std.specs.Prelude.{Some, None}
 use Rattle.cil_model.specs.declared.contract.Contracts.{Contracts}
 use Rattle.cil_model.specs.declared.contract.Group.{Group}
 use Rattle.cil_model.specs.declared.contract.Group.TheVariants as group
 use Rattle.cil_model.specs.declared.program.Program.{Program}
 use Rattle.cil_semantics.specs.Words.{maybe}
-use Rattle.cil_semantics.specs.State.{World, Local, At, Lead, In, Rest, Handling, Frame, Next, with_stack, raised, lowered}
-use Rattle.cil_semantics.specs.Contracted.{Piece, Plan, pieces, runs_at}
-use Rattle.cil_semantics.specs.Unwind.{piece_at, goes_at, arrive_in, next_piece, begin_piece, begin_group, begin_rest, gives_up, ends_frame, drops, unwind, after_entry_piece, Below}
-use Rattle.cil_semantics.specs.Returns.{return_to, return_from, begin_invariants, group_over, piece_over}
+use Rattle.cil_semantics.specs.State.{World, Local, Lead, Frame, Next, raised, lowered}
+use Rattle.cil_semantics.specs.Contracted.{Piece, Plan, runs_at}
+use Rattle.cil_semantics.specs.Unwind.{piece_at, goes_at, next_piece, begin_piece, begin_group, begin_rest, ends_frame, drops, unwind, after_entry_piece}
+use Rattle.cil_semantics.specs.Returns.{return_to, begin_invariants, group_over, piece_over}
 use Rattle.cil_semantics.specs.Frames.{stuck}
-use Rattle.cil_semantics.specs.FourParts.{at_piece, at_rest, goes_below, FirstPart, EntryPart, GroupsThrow, ReturnPart, ThrowPart, GoesByParts}
+use Rattle.cil_semantics.specs.FourParts.{at_piece, FirstPart, EntryPart, GroupsThrow, ReturnPart, ThrowPart, GoesByParts}
 
 if_true : (b : Bool) (x y : Next) → b ≡ true → (if b then x else y) ≡ x
 if_true b x y e = ap (λ c. if c then x else y) e

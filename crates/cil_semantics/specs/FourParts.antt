@@ -1,10 +1,10 @@
 -- A call with contracts goes by its parts: the lead-in; the entry group; the rest; and behind it the postconditions and the invariants, or the clauses on exceptions (the Code Contracts manual, section 2, and this project's order of groups).
-use Rattle.std.specs.Prelude.{◌≡◌, ◌≢◌, ℕ, ◌+◌, Bool, true, false, List, [], ◌++◌, filter, Option, Some, None}
+use Rattle.std.specs.Prelude.{◌≡◌, ◌≢◌, ℕ, ◌+◌, true, false, List, [], ◌++◌, filter, Some, None}
 use Rattle.cil_model.specs.declared.contract.Contracts.{Contracts}
 use Rattle.cil_model.specs.declared.contract.Group.{Group}
 use Rattle.cil_model.specs.declared.contract.Group.TheVariants as group
 use Rattle.cil_model.specs.declared.program.Program.{Program}
-use Rattle.cil_semantics.specs.State.{World, Local, At, Lead, In, Rest, Handling, Frame, Next, with_stack, raised, lowered}
+use Rattle.cil_semantics.specs.State.{World, Local, Lead, In, Rest, Handling, Frame, Next, with_stack, raised, lowered}
 use Rattle.cil_semantics.specs.Contracted.{Piece, Plan, pieces, runs_at, is_pre, each_captured, is_ensures, is_throws}
 use Rattle.cil_semantics.specs.Unwind.{piece_at, goes_at, arrive_in, next_piece, gives_up, ends_frame, drops, unwind, Below}
 use Rattle.cil_semantics.specs.Frames.{first_place}

@@ -12,7 +12,7 @@ use Rattle.cil_model.specs.declared.run.Reply.{Reply}
 use Rattle.cil_model.specs.NoContracts.{no_contracts}
 use Rattle.cil_semantics.specs.Words.{maybe}
 use Rattle.cil_semantics.specs.Places.{Anything, Cell}
-use Rattle.cil_semantics.specs.State.{World, At, Lead, In, Rest, Frame, State, Next, Goes, Ends, Pushes, pushed, with_stack}
+use Rattle.cil_semantics.specs.State.{World, At, Lead, In, Rest, Frame, State, Next, Goes, Ends, Pushes, pushed, with_stack, untold, goes_after}
 use Rattle.cil_semantics.specs.Classes.{Class, class_of, Loads_local, Stores_local, Points_to_local}
 use Rattle.cil_semantics.specs.Acts.{Act, Is_stuck, Goes_on, Jumps, Raises, Throws, Throws_again, Leaves, Ends_handler, Returns, Loads, Stores, Copies, Uses_static, Calls, Calls_virtual, Makes, Finds_virtual}
 use Rattle.cil_semantics.specs.Instructions.{act}
@@ -105,8 +105,9 @@ module _ (p : Program) (k : Contracts) (g : Numbers) where
   step_frames [] w = stuck w
   step_frames (f ∷ fs) w = step_at (plan_at k p f.method) f.at f fs w
 
+  -- Nothing reads what was told: a step begins with an empty trace, and what it tells comes behind.
   unfoldable pub step : State → Next
-  step s = step_frames s.frames s.world
+  step s = goes_after s.world.trace (step_frames s.frames (untold s.world))
 
 -- ---- runs
 

@@ -1,31 +1,29 @@
 -- Further small programs: handlers, initializers, instance methods with invariants, generic statics, and replies.
-use Rattle.std.specs.Prelude.{◌≡◌, ℕ, ◌+◌, Bool, true, false, List, [], ◌∷◌, ◌++◌, length, Option, Some, None, pos, negsuc, ℤ, codes}
+use Rattle.std.specs.Prelude.{◌≡◌, ℕ, ◌+◌, true, false, List, [], ◌∷◌, ◌++◌, Some, None, codes}
 use Rattle.cil_base.specs.declared.token.Token.{Token}
-use Rattle.cil_model.specs.declared.ty.Ty.{Ty, Prim, Known, MVar}
+use Rattle.cil_model.specs.declared.ty.Ty.{Prim, Known}
 use Rattle.cil_model.specs.declared.ty.Ty.TheVariants as ty
-use Rattle.cil_model.specs.declared.value.Value.{Value, I4, Null, Text}
+use Rattle.cil_model.specs.declared.value.Value.{Null, Text}
 use Rattle.cil_model.specs.declared.body.Instr.{Instr}
-use Rattle.cil_model.specs.declared.body.Body.{Body}
 use Rattle.cil_model.specs.declared.body.Region.{Region}
 use Rattle.cil_model.specs.declared.body.RegionKind.{RegionKind}
 use Rattle.cil_model.specs.declared.body.RegionKind.TheVariants as region
-use Rattle.cil_model.specs.declared.body.Operand.TheVariants.{Int, Index, Tok}
+use Rattle.cil_model.specs.declared.body.Operand.TheVariants.{Index, Tok}
 use Rattle.cil_model.specs.declared.contract.Clause.{Clause}
 use Rattle.cil_model.specs.declared.contract.Contracts.{Contracts}
 use Rattle.cil_model.specs.declared.contract.Effective.{Effective}
 use Rattle.cil_model.specs.declared.contract.ClauseKind.TheVariants as kind
-use Rattle.cil_model.specs.declared.contract.Level.TheVariants.{NoChecks, ReleaseRequires, Preconditions, PreAndPost, Full}
+use Rattle.cil_model.specs.declared.contract.Level.TheVariants.{Full}
 use Rattle.cil_model.specs.declared.program.Program.{Program}
 use Rattle.cil_model.specs.declared.program.FieldDesc.{FieldDesc}
 use Rattle.cil_model.specs.declared.program.MethodDesc.{MethodDesc}
 use Rattle.cil_model.specs.declared.program.TypeDesc.{TypeDesc}
-use Rattle.cil_model.specs.declared.program.Meaning.TheVariants.{OfType, OfField, OfMethod, OfText, OfLocals}
+use Rattle.cil_model.specs.declared.program.Meaning.TheVariants.{OfType, OfField, OfMethod, OfLocals}
 use Rattle.cil_model.specs.declared.program.TokenRow.{TokenRow}
 use Rattle.cil_model.specs.declared.run.Outcome.TheVariants as outcome
 use Rattle.cil_model.specs.declared.run.ReplyResult.TheVariants as reply
-use Rattle.cil_model.specs.declared.run.TraceItem.{TraceItem}
-use Rattle.cil_semantics.specs.Core.{Name, class, string_ty, helper_name}
-use Rattle.cil_semantics.specs.Samples.{instr, bare, ldarg, starg, ldloc, stloc, int, jump, call, newobj, ret, body, int_ty, bool_ty, void_ty, method, class_with, clause, no_effective, contracts, replies, null_reply, failed, sample, requires, ensures_call, on_throw, invariant, assert, result, old_value, log_get, log_check, log_find, new_argument_exception, new_null_exception, new_operation_exception, call_own, value_at_return, type_token, type_ref, method_token, checked, i4, returns, contract_exception_name}
+use Rattle.cil_semantics.specs.Core.{class, string_ty, contract_name, helper_name}
+use Rattle.cil_semantics.specs.Samples.{instr, bare, ldarg, starg, int, jump, call, ret, body, int_ty, void_ty, method, class_with, outside_class, clause, no_effective, contracts, replies, null_reply, failed, sample, requires, ensures_call, on_throw, invariant, log_get, new_operation_exception, call_own, value_at_return, type_token, type_ref, method_token, checked, i4, returns, contract_exception_name}
 use Rattle.cil_semantics.specs.Rows.{with_contract, find, inc, inc_contract, inc_label, got}
 
 -- ---- a reply of another kind than the result
@@ -118,6 +116,29 @@ InitializerFailsForGood = checked init (with_contract no_effective) 2 [] [] 60 �
 -- an entry call is a use
 abbrev pub EntryRunsTheInitializer : Type 0
 EntryRunsTheInitializer = checked init (with_contract no_effective) 0 [] [] 60 ≡ Some (outcome.Thrown 2 (codes "System.TypeInitializationException"), [])
+
+-- ---- class T<X>: Set(int32 n) stores n in a static field. Go(): T<int32>.Set(5); T<string>.Set(7); returns 10 times the one's field and the other's
+
+abbrev pub generic_rows : List TokenRow
+generic_rows =
+    record { assembly = 0; token = field_token 0; meaning = OfField (ty.Inst 0 (ty.Var 0 ∷ [])) 0 }
+    ∷ record { assembly = 0; token = field_token 1; meaning = OfField (ty.Inst 0 (int_ty ∷ [])) 0 }
+    ∷ record { assembly = 0; token = field_token 2; meaning = OfField (ty.Inst 0 (string_ty ∷ [])) 0 }
+    ∷ record { assembly = 0; token = method_token 8; meaning = OfMethod (ty.Inst 0 (int_ty ∷ [])) 0 [] }
+    ∷ record { assembly = 0; token = method_token 9; meaning = OfMethod (ty.Inst 0 (string_ty ∷ [])) 0 [] } ∷ []
+
+abbrev pub generic : Program
+generic =
+    let q =
+    with_field static_int generic_rows (sample
+    (method 0 (codes "Set") (int_ty ∷ []) void_ty (body (ldarg 0 ∷ instr 0x80 (Tok 0 (field_token 0)) ∷ ret ∷ []) [] None)
+    ∷ method 2 (codes "Go") [] int_ty (body (int 5 ∷ call_own 8 ∷ int 7 ∷ call_own 9 ∷ instr 0x7E (Tok 0 (field_token 1)) ∷ int 10 ∷ bare 0x5A ∷ instr 0x7E (Tok 0 (field_token 2)) ∷ bare 0x58 ∷ ret ∷ []) [] None) ∷ []))
+    in
+    record q { types = record (class_with (codes "T") (0 ∷ [])) { fields = 0 ∷ []; generics = 1 } ∷ outside_class contract_name ∷ class_with (codes "U") (1 ∷ []) ∷ [] }
+
+-- each closed type has a field of its own
+abbrev pub ClosedTypesHaveTheirOwnStatics : Type 0
+ClosedTypesHaveTheirOwnStatics = checked generic (with_contract no_effective) 1 [] [] 60 ≡ Some (returns 57, [])
 
 -- ---- class C: Invariant(P(0) == 0); public P(x): Requires(x > 0); return x
 

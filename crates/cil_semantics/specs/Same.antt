@@ -1,6 +1,6 @@
 -- Same behaviour: the plain run of a program does what the run of another with its contracts does.
-use Rattle.std.specs.Prelude.{◌≡◌, ℕ, zero, suc, ◌+◌, ◌*◌, ◌<◌, ◌≤◌, max, Bool, true, false, ◌&&◌, nat_lt, if◌then◌else◌, List, [], ◌∷◌, ◌++◌, length, filter, slice_get, Option, Some, None, codes, IsTrue, IsFalse, IsSome}
-use Rattle.cil_model.specs.declared.ty.Ty.{Ty, out-Ty, Prim, Known, Outside}
+use Rattle.std.specs.Prelude.{◌≡◌, ℕ, suc, ◌+◌, ◌*◌, ◌<◌, ◌≤◌, max, Bool, true, nat_lt, List, [], ◌∷◌, length, filter, codes, IsTrue, IsFalse, IsSome}
+use Rattle.cil_model.specs.declared.ty.Ty.{Ty, out-Ty, Prim}
 use Rattle.cil_model.specs.declared.value.Value.{Value}
 use Rattle.cil_model.specs.declared.contract.Contracts.{Contracts}
 use Rattle.cil_model.specs.declared.contract.Effective.{Effective}
@@ -10,16 +10,17 @@ use Rattle.cil_model.specs.declared.program.FieldDesc.{FieldDesc}
 use Rattle.cil_model.specs.declared.program.MethodDesc.{MethodDesc}
 use Rattle.cil_model.specs.declared.run.Reply.{Reply}
 use Rattle.cil_model.specs.declared.run.Outcome.{Outcome}
+use Rattle.cil_model.specs.NoContracts.{no_contracts}
 use Rattle.cil_semantics.specs.Words.{maybe}
-use Rattle.cil_semantics.specs.Core.{Name, string_ty, contract_name, helper_name}
+use Rattle.cil_semantics.specs.Core.{Name, string_ty, helper_name}
 use Rattle.cil_semantics.specs.Lookups.{type_of, field_of, method_of, in_set}
-use Rattle.cil_semantics.specs.State.{World, Statics, Next, Ends}
+use Rattle.cil_semantics.specs.State.{World, Statics, State, Next, Goes, Ends}
 use Rattle.cil_semantics.specs.Contracted.{effective_of}
 use Rattle.cil_semantics.specs.Frames.{param_types, owner_type}
 use Rattle.cil_semantics.specs.Outside.{all_fit, fits}
 use Rattle.cil_semantics.specs.Checks.{Numbers, kind_ty, exception_ty}
-use Rattle.cil_semantics.specs.Machine.{run, plain_run, empty_world}
-use Rattle.cil_semantics.specs.Simulation.{IsPrefix, trace_of}
+use Rattle.cil_semantics.specs.Machine.{start, step, runs, run, plain_run, empty_world, numbers_past}
+use Rattle.cil_semantics.specs.Simulation.{IsPrefix, trace_of, EndsAlike, Match, weight}
 
 -- ---- identity (ECMA-335, II.6.2): a row of an assembly, or outside the set a name
 
@@ -81,10 +82,6 @@ pub record SameWorld (p : Program) (w w' : World) : Type 0 where
   pub statics : input_statics p w ≡ input_statics p w'
   pub trace : w.trace ≡ w'.trace
 
--- the run is over in this way, and leaves the same
-abbrev pub EndsSame : (World → Type 0) → Next → Outcome → Type 0
-EndsSame E x o = (w : World) × (x ≡ Ends o w) × E w
-
 -- ---- entries
 
 -- A method of the set with a body, of no contract reference assembly and without type parameters, and arguments that fit.
@@ -116,7 +113,35 @@ pub record Same (p : Program) (k : Contracts) (p' : Program) : Type 0 where
   pub numbers : Numbers
   pub identities : KeepsIdentities p p'
   pub added : NamesAdded p p' numbers
-  pub ends_only : (m : ℕ) (args : List Value) (rs : List Reply) (n : ℕ) (o : Outcome) (w' : World) → IsEntry p m args → plain_run p' m args rs n ≡ Ends o w' → EndsSame (λ w. SameWorld p w w') (run p k numbers m args rs n) o
-  pub ends_too : (m : ℕ) (args : List Value) (rs : List Reply) (n : ℕ) (o : Outcome) (w : World) → IsEntry p m args → run p k numbers m args rs n ≡ Ends o w → EndsSame (SameWorld p w) (plain_run p' m args rs (bound_of k p * (n + 1))) o
+  pub ends_only : (m : ℕ) (args : List Value) (rs : List Reply) (n : ℕ) (o : Outcome) (w' : World) → IsEntry p m args → plain_run p' m args rs n ≡ Ends o w' → EndsAlike (λ w. SameWorld p w w') (run p k numbers m args rs n) o
+  pub ends_too : (m : ℕ) (args : List Value) (rs : List Reply) (n : ℕ) (o : Outcome) (w : World) → IsEntry p m args → run p k numbers m args rs n ≡ Ends o w → EndsAlike (SameWorld p w) (plain_run p' m args rs (bound_of k p * (n + 1))) o
   pub writes_no_more : (m : ℕ) (args : List Value) (rs : List Reply) (n : ℕ) → IsEntry p m args → IsPrefix (trace_of (plain_run p' m args rs n)) (trace_of (run p k numbers m args rs n))
   pub writes_no_less : (m : ℕ) (args : List Value) (rs : List Reply) (n : ℕ) → IsEntry p m args → IsPrefix (trace_of (run p k numbers m args rs n)) (trace_of (plain_run p' m args rs (bound_of k p * (n + 1))))
+
+-- ---- same behaviour from steps
+
+abbrev pub plain_step : Program → State → Next
+plain_step p s = step p no_contracts (numbers_past p) s
+
+-- the plain run comes from a state to one that goes with the first in few steps
+pub record Meets (p : Program) (k : Contracts) (p' : Program) (R : State → State → Type 0) (f : State → ℕ) (first second : State) : Type 0 where
+  pub met : State
+  pub steps : ℕ
+  pub meets : runs (plain_step p') steps second ≡ Goes met
+  pub related : R first met
+  pub within : steps + f first ≤ bound_of k p
+
+-- both runs begin, or both are over at once in the same way
+abbrev pub BeginsAlike : (p : Program) (k : Contracts) (p' : Program) (R : State → State → Type 0) (f : State → ℕ) → Next → Next → Type 0
+BeginsAlike p k p' R f (Goes s) (Goes s') = Meets p k p' R f s s'
+BeginsAlike p k p' R f (Ends o w) (Ends o' w') = (o ≡ o') × SameWorld p w w'
+BeginsAlike p k p' R f (Goes s) (Ends o' w') = ⊥
+BeginsAlike p k p' R f (Ends o w) (Goes s') = ⊥
+
+-- From each entry on the plain run of the second program answers each step of the first program's run with contracts; long answers are paid by what a state has laid by.
+pub record AnswersSteps (p : Program) (k : Contracts) (p' : Program) (g : Numbers) (R : State → State → Type 0) (f : State → ℕ) : Type 0 where
+  pub identities : KeepsIdentities p p'
+  pub added : NamesAdded p p' g
+  pub entry : (m : ℕ) (args : List Value) (rs : List Reply) → IsEntry p m args → BeginsAlike p k p' R f (start p k m args rs) (start p' no_contracts m args rs)
+  pub same_trace : (s s' : State) → R s s' → s.world.trace ≡ s'.world.trace
+  pub answer : (s s' : State) → R s s' → (j : ℕ) × (suc j + weight f (step p k g s) ≤ bound_of k p + f s) × Match (SameWorld p) R (step p k g s) (runs (plain_step p') (suc j) s')

@@ -14,12 +14,12 @@ use Rattle.cli_heaps.proofs.RootLaws.{total, cut_none}
 abbrev pub NoneFails : List Test → Type 0
 NoneFails ts = (r : Refusal) → Fails ts r → ⊥
 
-fails_behind : (ts us : List Test) (r : Refusal) → Fails us r → Fails (ts ++ us) r
+pub fails_behind : (ts us : List Test) (r : Refusal) → Fails us r → Fails (ts ++ us) r
 fails_behind [] us r f = f
 fails_behind (t ∷ ts) us r f = inr (fails_behind ts us r f)
 
 -- a test that doesn't fail
-passes : (t : Test) (ts : List Test) → NoneFails (t ∷ ts) → t.fails ≡ false
+pub passes : (t : Test) (ts : List Test) → NoneFails (t ∷ ts) → t.fails ≡ false
 passes t ts none = go t.fails refl
   where
     go : (b : Bool) → t.fails ≡ b → t.fails ≡ false
@@ -33,6 +33,11 @@ signed meta a none = go (is_signed meta) refl
     go true e = e
     go false e = absurd (none _ (inl (ap not e, refl)))
 
+-- the signature is there
+pub root_signed : (meta : List ℕ) (a : ℕ) → NoneBroken (Broken meta a) → is_signed meta ≡ true
+unfolding Broken
+root_signed meta a none = signed meta a none
+
 root_passes : (meta : List ℕ) (a : ℕ) → NoneFails (tests meta a) → NoneFails (root_tests meta a (root_cut meta))
 root_passes meta a none r f = none r (inr (subst (λ (b : Bool). Fails (cond b (root_tests meta a (root_cut meta)) []) r) (sym (signed meta a none)) f))
 
@@ -45,7 +50,7 @@ whole_root meta a none = go (root_cut meta) (root_passes meta a none)
     go (Some at) h = absurd (h _ (inl (refl, refl)))
 
 -- the tests behind those of the root
-behind_root : (meta : List ℕ) (a : ℕ) → NoneBroken (Broken meta a) → (lacks_tables meta ≡ false) × NoneFails (header_tests meta a (first_header meta) (stream_count meta))
+pub behind_root : (meta : List ℕ) (a : ℕ) → NoneBroken (Broken meta a) → (lacks_tables meta ≡ false) × NoneFails (header_tests meta a (first_header meta) (stream_count meta))
 unfolding Broken
 behind_root meta a none =
     let all : NoneFails (root_tests meta a None) = λ r f. root_passes meta a none r (subst (λ (o : Option ℕ). Fails (root_tests meta a o) r) (sym (whole_root meta a none)) f) in
@@ -90,7 +95,7 @@ found_fits meta name a at (suc n) s none e = go (is_whole_header meta at) (λ h 
     go false rest h k = absurd cc
 
 -- what is_cut_stream rules out
-or_no : (a b c : Bool) → (a || b || c) ≡ false → (a ≡ false) × (b ≡ false)
+pub or_no : (a b c : Bool) → (a || b || c) ≡ false → (a ≡ false) × (b ≡ false)
 or_no true b c e = absurd cc
 or_no false true c e = absurd cc
 or_no false false c e = (refl, refl)

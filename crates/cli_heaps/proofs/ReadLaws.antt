@@ -6,7 +6,7 @@ use Rattle.std.proofs.lemmas.Bool.{ltb-true, lt-ltb, le-ltb, leb-true, le-leb, l
 use Rattle.std.proofs.lemmas.List.{drop-append-le, take-append-le, drop_all}
 use Rattle.cil_base.specs.Packed.{packed_front, packed_two, packed_four, packed_at, packed_spelling}
 use Rattle.cli_heaps.specs.Root.{is_zero}
-use Rattle.cli_heaps.specs.Entries.{until_zero, string_at, bytes_at, counted_at, blob_at}
+use Rattle.cli_heaps.specs.Entries.{until_zero, string_at, bytes_at, counted_at, blob_at, guid_at}
 
 pub if_some : {T : Type 0} (o : Option T) (P : T → Type 0) → ((x : T) → o ≡ Some x → P x) → IfSome o P
 if_some None P h = tt
@@ -104,6 +104,13 @@ bytes_kept heap more at n s e = go (leb (at + n) (length heap)) refl e
         let longer : leb (at + n) (length (heap ++ more)) ≡ true = le-leb (at + n) (length (heap ++ more)) (omega (arith, length-append heap more, le)) in
         let same : take n (drop at (heap ++ more)) ≡ take n (drop at heap) = ap (take n) (drop-append-le at heap more (omega (arith, le))) ∙ take-append-le n (drop at heap) more (omega (arith, length-drop at heap, le)) in
         ap (λ (b : Bool). cond b (Some (take n (drop at (heap ++ more)))) None) longer ∙ ap Some same ∙ h
+
+pub guid_kept : (heap more : List ℕ) (index : ℕ) (s : List ℕ) → guid_at heap index ≡ Some s → guid_at (heap ++ more) index ≡ Some s
+guid_kept heap more index s e = go (eqb index 0) e
+  where
+    go : (b : Bool) → cond b None (bytes_at heap (16 * (index - 1)) 16) ≡ Some s → cond b None (bytes_at (heap ++ more) (16 * (index - 1)) 16) ≡ Some s
+    go true h = h
+    go false h = bytes_kept heap more (16 * (index - 1)) 16 s h
 
 pub blob_kept : (heap more : List ℕ) (at : ℕ) (s : List ℕ) → blob_at heap at ≡ Some s → blob_at (heap ++ more) at ≡ Some s
 blob_kept heap more at s e = first (eqb at 0) e

@@ -3,3 +3,4 @@ pub mod RootRules
 pub mod Entries
 pub mod Split
 pub mod Growth
+pub mod Written

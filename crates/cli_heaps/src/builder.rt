@@ -6,17 +6,11 @@ ghost use Rattle.cli_heaps.specs.Root.{Metadata, is_zero, strings, blobs, users}
 ghost use Rattle.cli_heaps.specs.Entries.{string_at, blob_at};
 ghost use Rattle.cli_heaps.specs.Growth.{Growth, Growths, no_growth, place_of, Appends, IsFull, ReadsAt, KeepsEntries, KeepsUsers, string_entry, blob_entry, user_content, is_special, unit_bytes, full};
 
-use crate::grown::{Grown, full};
+use crate::grown::{Grown, HEAP_LIMIT, USER_LIMIT, full};
 use crate::heaps::Heaps;
 use cil_base::{Bytes, Fault, push_packed};
 use std::alloc::{AllocError, Global};
 use std::marker::Model;
-
-/// The most bytes of `#Strings` and of `#Blob`.
-const HEAP_LIMIT: u32 = 0x1000_0000;
-
-/// The most bytes of `#US`.
-const USER_LIMIT: u32 = 0x100_0000;
 
 /// The heaps of an assembly with what is appended to them. The same entry, appended again, stands
 /// once. A refused call leaves them as they were.

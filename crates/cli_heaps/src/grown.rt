@@ -8,6 +8,12 @@ use indexmap::IndexMap;
 use std::alloc::{AllocError, Global};
 use std::marker::Model;
 
+/// The most bytes of `#Strings`, of `#Blob` and of `#GUID`.
+pub const HEAP_LIMIT: u32 = 0x1000_0000;
+
+/// The most bytes of `#US`.
+pub const USER_LIMIT: u32 = 0x100_0000;
+
 /// What is appended to a heap of `base` bytes.
 #[derive(Drop)]
 pub struct Grown {

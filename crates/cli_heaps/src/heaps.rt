@@ -73,6 +73,13 @@ impl<'a> Heaps<'a> {
         streams::all_streams(alloc, self.meta)
     }
 
+    /// Whether there is a stream of this name.
+    pub(crate) fn has_stream(&self, name: &[u8]) -> bool
+        ensures { result ≡ is_some (first_named self.now.bytes name.now) }
+    {
+        find_stream(self.meta, name).is_some()
+    }
+
     /// The bytes of a stream of this metadata.
     pub fn stream_bytes(&self, stream: &Stream<'_>) -> &'a [u8]
         ensures { result.now ≡ stream_bytes self.now.bytes stream.now }

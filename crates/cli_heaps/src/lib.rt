@@ -7,10 +7,12 @@ mod grown;
 mod heaps;
 mod root;
 mod streams;
+mod written;
 
 pub use builder::HeapBuilder;
 pub use heaps::Heaps;
 pub use streams::Stream;
+pub use written::write_metadata;
 
 #[cfg(test)]
 mod tests;

@@ -1,6 +1,6 @@
 // Metadata roots that are read or refused at a place, and heaps that grow.
-use crate::{HeapBuilder, Heaps};
-use cil_base::{Fault, Rule};
+use crate::{HeapBuilder, Heaps, write_metadata};
+use cil_base::{Bytes, Fault, Rule};
 use std::alloc::{AllocError, Global};
 
 // The root with six stream headers, at 24, 36, 56, 68, 84 and 100.
@@ -252,5 +252,56 @@ fn an_empty_heap_gets_a_zero_byte_first(rt: HostRuntime) -> Result<(), AllocErro
     let place = builder.append_user(&[]);
     assert!(rt; matches!(place, Ok(1)));
     assert!(rt; builder.users_added() == b"\0\x01\0".as_slice());
+    Ok(())
+}
+
+/// The metadata with the text "ab" appended.
+fn with_text(alloc: Global, heaps: &Heaps<'_>) -> Result<Bytes, Fault> {
+    let mut builder = HeapBuilder::new(alloc, heaps)?;
+    builder.append_user(&[0x61, 0x62])?;
+    let tables = heaps.tables();
+    if tables.len() != 24 {
+        return Err(Fault::Memory(AllocError));
+    }
+    write_metadata(alloc, heaps, &builder, tables)
+}
+
+/// Whether the stream of this number has this name, and so many bytes at this place.
+fn stream_is(
+    alloc: Global,
+    heaps: &Heaps<'_>,
+    number: usize,
+    name: &[u8],
+    offset: u32,
+    bytes: &[u8],
+) -> Result<bool, AllocError> {
+    let streams = heaps.streams(alloc)?;
+    let Some(stream) = streams.get(number) else {
+        return Ok(false);
+    };
+    Ok(stream.is_named(name) && stream.offset() == offset && heaps.stream_bytes(stream) == bytes)
+}
+
+#[test]
+fn a_missing_heap_comes_behind_the_others(rt: HostRuntime) -> Result<(), AllocError> {
+    // `#US` is renamed, and so it is an unknown stream
+    let alloc = rt.alloc();
+    let meta = sample(alloc, 66, b"X")?;
+    assert!(rt; meta.len() == 180);
+    let Ok(heaps) = Heaps::read(&meta, 3) else {
+        panic!(rt; "refused");
+    };
+    let Ok(bytes) = with_text(alloc, &heaps) else {
+        panic!(rt; "not written");
+    };
+    // seven headers, and 8 bytes more
+    assert!(rt; bytes.len() == 200);
+    let Ok(new) = Heaps::read(bytes.as_slice(), 3) else {
+        panic!(rt; "refused again");
+    };
+    assert!(rt; stream_is(alloc, &new, 2, b"#UX", 160, b"\0\x05a\0b\0\0\0")?);
+    assert!(rt; stream_is(alloc, &new, 5, b"#Other", 188, b"more")?);
+    assert!(rt; stream_is(alloc, &new, 6, b"#US", 192, b"\0\x05a\0b\0\0\0")?);
+    assert!(rt; new.user(1) == Some(b"a\0b\0\0") && new.string(1) == Some(b"ab"));
     Ok(())
 }

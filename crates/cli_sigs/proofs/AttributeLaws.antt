@@ -1,10 +1,10 @@
 -- The reader of an attribute's text reads the attributes with one text.
-use Rattle.std.proofs.Common.{◌≡◌, ◌==◌, ℕ, ◌<◌, List, [], ◌∷◌, ◌++◌, Bool, true, false, ltb, refl, sym, ap, subst, ◌∙◌, append-nil, append_assoc}
+use Rattle.std.proofs.Common.{◌≡◌, ◌==◌, ℕ, List, [], ◌∷◌, ◌++◌, true, refl, ap, subst, ◌∙◌}
 use Rattle.std.proofs.lemmas.Bool.{eqb-true, ltb-true, lt-ltb}
-use Rattle.cli_sigs.specs.Read.{Reader, ◌>>=◌, maps, byte_where, many}
+use Rattle.cli_sigs.specs.Read.{byte_where}
 use Rattle.cli_sigs.specs.Grammar.{Counted}
 use Rattle.cli_sigs.specs.Attributes.{IsChar, IsTypeAttribute}
-use Rattle.cli_sigs.specs.Reading.{this_byte, is_byte, counted, attribute}
+use Rattle.cli_sigs.specs.Reading.{this_byte, is_byte, attribute}
 use Rattle.cli_sigs.proofs.Readers.{IsReader, Then, IsByte, Image, reads-bind, reads-byte, reads-maps, same_grammar}
 use Rattle.cli_sigs.proofs.Packed.{reads-counted}
 

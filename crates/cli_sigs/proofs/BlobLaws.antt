@@ -1,16 +1,13 @@
 -- From what a reader of a front gave to what the reader of a blob answers.
-use Rattle.std.proofs.Common.{◌≡◌, ℕ, zero, suc, ◌+◌, ◌-◌, ◌<◌, ◌≤◌, List, [], ◌∷◌, ◌++◌, length, Result, Ok, Err, refl, sym, ap, subst, ◌∙◌, arith}
+use Rattle.std.proofs.Common.{◌≡◌, ℕ, ◌-◌, List, [], ◌∷◌, length, Result, Ok, Err, refl, sym, subst, arith}
 use Rattle.std.specs.Prelude.{IfOk}
 use Rattle.cil_base.specs.declared.rule.Rule.{Rule}
 use Rattle.cil_base.specs.declared.refusal.Place.{Place}
-use Rattle.cil_base.specs.declared.refusal.Refusal.{Refusal}
 use Rattle.cil_base.specs.declared.refusal.Fault.{Fault}
-use Rattle.cil_base.specs.declared.refusal.Fault.TheVariants.{Refused, Memory}
-use Rattle.cil_base.specs.Refusals.{OnRefused, refusal}
+use Rattle.cil_base.specs.Refusals.{OnRefused}
 use Rattle.cli_sigs.specs.declared.numbers.Stop.{Stop}
 use Rattle.cli_sigs.specs.declared.numbers.Stop.TheVariants as stop
-use Rattle.cli_sigs.specs.Read.{Outcome, Reader, ◌>>=◌}
-use Rattle.cli_sigs.specs.Grammar.{IsLongest}
+use Rattle.cli_sigs.specs.Read.{Reader}
 use Rattle.cli_sigs.specs.Reading.{Stops, Gives}
 use Rattle.cli_sigs.specs.Answers.{GivesOnly, AtLongest, Ends, EndsStopped, Concludes, StopsWithin, Within}
 use Rattle.cli_sigs.proofs.Readers.{IsReader}

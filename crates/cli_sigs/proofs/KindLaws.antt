@@ -1,10 +1,10 @@
 -- The readers of each kind of blob read its grammar.
-use Rattle.std.proofs.Common.{◌≡◌, ◌==◌, ℕ, zero, suc, List, [], ◌∷◌, ◌++◌, Bool, true, false, refl, sym, ap, subst, ◌∙◌}
+use Rattle.std.proofs.Common.{◌≡◌, ◌==◌, ℕ, List, [], ◌∷◌, ◌++◌, Bool, refl, ap, ◌∙◌}
 use Rattle.std.proofs.lemmas.Bool.{eqb-true, eq-eqb}
 use Rattle.cli_sigs.specs.declared.elements.Slot.{Slot}
-use Rattle.cli_sigs.specs.declared.elements.Slot.TheVariants.{Plain, Param}
+use Rattle.cli_sigs.specs.declared.elements.Slot.TheVariants.{Plain}
 use Rattle.cli_sigs.specs.declared.elements.MethodKind.{MethodKind}
-use Rattle.cli_sigs.specs.Read.{Reader, ◌>>=◌, byte_where}
+use Rattle.cli_sigs.specs.Read.{Reader, ◌>>=◌}
 use Rattle.cli_sigs.specs.Grammar.{Behind, Counted, IsMethod, IsType, IsFieldSig}
 use Rattle.cli_sigs.specs.Reading.{this_byte, counted, type_at, method_at, field_at, list_at}
 use Rattle.cli_sigs.proofs.Readers.{IsReader, Then, IsByte, reads-bind, reads-byte, same_grammar}

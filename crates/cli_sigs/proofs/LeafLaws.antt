@@ -1,18 +1,16 @@
 -- A type with none inside, and types of every depth.
-use Rattle.std.proofs.Common.{◌≡◌, ℕ, zero, suc, ◌+◌, ◌<◌, ◌≤◌, Bool, true, false, cond, List, [], ◌∷◌, ◌++◌, length, Option, Some, None, Ok, Err, refl, sym, ap, subst, ◌∙◌, append-nil, arith, inl, inr, ◌⊎◌}
+use Rattle.std.proofs.Common.{◌≡◌, ℕ, zero, suc, Bool, true, false, cond, List, [], ◌∷◌, ◌++◌, Option, Some, None, Err, refl, sym, ap, subst, ◌∙◌, append-nil, arith}
 use Rattle.cli_sigs.specs.declared.elements.Element.{Element}
 use Rattle.cli_sigs.specs.declared.elements.Element.TheVariants as e
 use Rattle.cli_sigs.specs.declared.elements.Slot.{Slot}
 use Rattle.cli_sigs.specs.declared.elements.Slot.TheVariants.{Plain, Param}
-use Rattle.cli_sigs.specs.declared.elements.MethodKind.TheVariants.{Pointer}
 use Rattle.cli_sigs.specs.declared.types.SigTy.{SigTy}
 use Rattle.cli_sigs.specs.declared.types.SigTy.TheVariants as ty
-use Rattle.cli_sigs.specs.declared.types.MethodSig.{MethodSig}
 use Rattle.cli_sigs.specs.Elements.{is_prim, element_of, may_stand, element_in, is_leaf}
 use Rattle.cli_sigs.specs.Numbers.{IsPacked}
-use Rattle.cli_sigs.specs.Grammar.{Each, Counted, IsMethod, method, named_byte, Layer, prim, ptr, by_ref, named, var, mvar, array, inst, func, sz_array, modified, pinned, IsType}
-use Rattle.cli_sigs.specs.Read.{Outcome, Reader, and_then, ◌>>=◌, pure, maps, byte_as}
-use Rattle.cli_sigs.specs.Reading.{packed, named_value, type_after, keep_leaf, leaf_in, bare_inst, leaf_after, no_items, type_at}
+use Rattle.cli_sigs.specs.Grammar.{Counted, method, named_byte, Layer, prim, ptr, by_ref, named, var, mvar, array, inst, func, sz_array, modified, pinned, IsType}
+use Rattle.cli_sigs.specs.Read.{◌>>=◌, byte_as}
+use Rattle.cli_sigs.specs.Reading.{keep_leaf, leaf_in, bare_inst, leaf_after, type_at}
 use Rattle.cli_sigs.proofs.Readers.{IsReader, Avoids, Then, Nothing, IsByteAs, Image, reads-bind, reads-pure, reads-as, reads-maps, same_grammar}
 use Rattle.cli_sigs.proofs.Packed.{reads-packed}
 use Rattle.cli_sigs.proofs.Zeros.{IsZero, reads-zero}

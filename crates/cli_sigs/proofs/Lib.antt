@@ -8,3 +8,6 @@ pub mod LeafLaws
 pub mod BlobLaws
 pub mod KindLaws
 pub mod AttributeLaws
+pub mod PrintLaws
+pub mod ValidLaws
+pub mod CommaLaws

@@ -1,7 +1,7 @@
 -- Where a reader stops is the end of the longest front with which something in its grammar begins.
-use Rattle.std.proofs.Common.{◌≡◌, ℕ, zero, suc, ◌+◌, ◌-◌, ◌<◌, ◌≤◌, List, [], ◌∷◌, ◌++◌, length, take, Ok, Err, refl, sym, ap, subst, ◌∙◌, append-nil, append_assoc, arith, add-one}
+use Rattle.std.proofs.Common.{◌≡◌, ℕ, zero, suc, ◌-◌, ◌<◌, ◌≤◌, List, [], ◌∷◌, ◌++◌, length, take, Ok, Err, refl, sym, ap, subst, ◌∙◌, append-nil, append_assoc, arith}
 use Rattle.std.proofs.lemmas.List.{take_at, take_all, length-append}
-use Rattle.cli_sigs.specs.Read.{Outcome, Reader}
+use Rattle.cli_sigs.specs.Read.{Reader}
 use Rattle.cli_sigs.specs.Grammar.{Begins, IsLongest}
 use Rattle.cli_sigs.proofs.Readers.{IsReader, ok_is}
 
@@ -79,3 +79,7 @@ module _ {A : Type 0} (G : List ℕ → A → Type 0) (r : Reader A) (h : IsRead
 
   pub only_one : (bs rest : List ℕ) (u v : A) → r bs ≡ Ok (u, rest) → G bs v → u ≡ v
   only_one bs rest u v e g = let p = ok_is u v rest [] (sym e ∙ whole_again bs v g) in p.0
+
+  -- bytes have one value
+  pub one_value : (bs : List ℕ) (u v : A) → G bs u → G bs v → u ≡ v
+  one_value bs u v f g = only_one bs [] u v (whole_again bs u f) g

@@ -1,11 +1,11 @@
 -- The readers of compressed numbers read the compressed numbers.
-use Rattle.std.proofs.Common.{◌≡◌, ◌==◌, ℕ, zero, suc, ◌+◌, ◌-◌, ◌*◌, ◌^◌, ◌<◌, ◌≤◌, Bool, true, false, ◌||◌, cond, ltb, List, [], ◌∷◌, ◌++◌, length, Option, Some, None, Ok, Err, refl, sym, ap, subst, ◌∙◌, arith, inl, inr, ◌⊎◌, append-nil}
+use Rattle.std.proofs.Common.{◌≡◌, ℕ, ◌+◌, ◌-◌, ◌*◌, ◌<◌, ◌≤◌, Bool, true, false, cond, ltb, List, [], ◌∷◌, ◌++◌, length, refl, sym, ap, subst, ◌∙◌, arith, inl, inr}
 use Rattle.std.specs.Prelude.{ℤ}
-use Rattle.std.proofs.lemmas.Bool.{ltb-true, lt-ltb, ltb-false, le-ltb, eqb-true}
-use Rattle.cli_sigs.specs.Read.{Outcome, Reader, ◌>>=◌, pure, maps, byte_where, many}
+use Rattle.std.proofs.lemmas.Bool.{ltb-true, lt-ltb, ltb-false, le-ltb}
+use Rattle.cli_sigs.specs.Read.{Reader, byte_where}
 use Rattle.cli_sigs.specs.Numbers.{IsPacked, IsSigned, half_of, unrotated}
-use Rattle.cli_sigs.specs.Grammar.{Each, Counted}
-use Rattle.cli_sigs.specs.Reading.{is_head, is_byte, this_byte, packed_after, packed, head_half, signed, counted, is_zero_head, nothing_after, no_items}
+use Rattle.cli_sigs.specs.Grammar.{Counted}
+use Rattle.cli_sigs.specs.Reading.{is_head, is_byte, packed_after, packed, head_half, signed, counted}
 use Rattle.cli_sigs.proofs.Readers.{IsReader, Then, Nothing, IsByte, Image, Choice, Many, reads-bind, reads-pure, reads-byte, reads-maps, reads-choice, reads-many, same_grammar}
 
 abbrev any : IsReader (IsByte is_byte) (byte_where is_byte)

@@ -1,6 +1,6 @@
 -- A reader reads a grammar: what it finds is in the grammar, all of the grammar is found, and it stops at the first byte
 -- that no text of the grammar has there.
-use Rattle.std.proofs.Common.{◌≡◌, ◌==◌, ℕ, zero, suc, ◌+◌, ◌<◌, ◌≤◌, Bool, true, false, cond, List, [], ◌∷◌, ◌++◌, length, take, Option, Some, None, Result, Ok, Err, refl, sym, ap, subst, ◌∙◌, append_assoc, arith, inl, inr, ◌⊎◌, length-append, append-nil}
+use Rattle.std.proofs.Common.{◌≡◌, ◌==◌, ℕ, zero, suc, ◌+◌, Bool, true, false, cond, List, [], ◌∷◌, ◌++◌, length, Option, Some, None, Ok, Err, refl, sym, ap, subst, ◌∙◌, append_assoc, arith, inl, inr, ◌⊎◌, append-nil}
 use Rattle.std.proofs.lemmas.Bool.{eqb-true, eq-eqb}
 use Rattle.cli_sigs.specs.Grammar.{Each}
 use Rattle.cli_sigs.specs.Read.{Outcome, Reader, and_then, ◌>>=◌, pure, maps, byte_given, byte_as, byte_where, many, marked}

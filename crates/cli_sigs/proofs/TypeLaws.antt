@@ -1,26 +1,24 @@
 -- The reader of types reads the types, and that of methods the methods.
-use Rattle.std.proofs.Common.{◌≡◌, ℕ, zero, suc, ◌+◌, ◌<◌, ◌≤◌, Bool, true, false, cond, ltb, List, [], ◌∷◌, ◌++◌, length, Option, Some, None, Ok, Err, refl, sym, ap, subst, ◌∙◌, append-nil, append_assoc, arith, inl, inr, ◌⊎◌, ◌||◌, ◌&&◌, ◌==◌}
-use Rattle.std.specs.Prelude.{ℤ, nat_lt}
+use Rattle.std.proofs.Common.{◌≡◌, ℕ, zero, suc, ◌+◌, ◌≤◌, Bool, true, false, cond, List, [], ◌∷◌, ◌++◌, length, Option, Some, None, refl, sym, ap, subst, ◌∙◌, append_assoc, arith, inl, inr, ◌⊎◌, ◌==◌}
 use Rattle.std.proofs.lemmas.Bool.{eqb-true}
 use Rattle.std.proofs.lemmas.List.{length-append}
 use Rattle.cli_sigs.specs.declared.elements.Element.{Element}
 use Rattle.cli_sigs.specs.declared.elements.Element.TheVariants as e
 use Rattle.cli_sigs.specs.declared.elements.Slot.{Slot}
-use Rattle.cli_sigs.specs.declared.elements.Slot.TheVariants.{Plain, Pointed, Param, Returned, Local, Constrained}
+use Rattle.cli_sigs.specs.declared.elements.Slot.TheVariants.{Plain, Pointed, Param}
 use Rattle.cli_sigs.specs.declared.elements.MethodKind.{MethodKind}
 use Rattle.cli_sigs.specs.declared.elements.MethodKind.TheVariants.{Method, Pointer, Property}
 use Rattle.cli_sigs.specs.declared.types.SigTy.{SigTy}
 use Rattle.cli_sigs.specs.declared.types.SigTy.TheVariants as ty
 use Rattle.cli_sigs.specs.declared.types.MethodSig.{MethodSig}
-use Rattle.cli_sigs.specs.Elements.{is_prim, element_of, may_stand, element_in, is_leaf, kept, allows_void, allows_by_ref, allows_typed_by_ref, allows_pinned}
+use Rattle.cli_sigs.specs.Elements.{is_prim, element_of, may_stand, element_in, kept, allows_by_ref, allows_pinned}
 use Rattle.cli_sigs.specs.Methods.{may_begin, returned, is_generic, is_vararg}
 use Rattle.cli_sigs.specs.Numbers.{IsPacked, IsSigned}
-use Rattle.cli_sigs.specs.Grammar.{Each, Counted, IsGenerics, IsParams, all_fixed, some_extra, method_of, IsMethod, method, named_byte, modifier_byte, Layer, prim, ptr, by_ref, named, var, mvar, array, inst, func, sz_array, modified, pinned, IsType}
-use Rattle.cli_sigs.specs.Read.{Outcome, Reader, and_then, ◌>>=◌, pure, maps, byte_as, byte_where, many, marked}
-use Rattle.cli_sigs.specs.Reading.{packed, signed, counted, generics_after, open_params, params_after, method_at, named_value, array_of, inst_of, modified_of, type_after, keep_leaf, leaf_in, bare_inst, leaf_after, no_items, type_at}
-use Rattle.cli_sigs.proofs.Readers.{IsReader, Avoids, Then, Nothing, IsByte, IsByteAs, Image, Choice, Many, Marked, reads-bind, reads-pure, reads-byte, reads-as, reads-maps, reads-choice, reads-many, reads-marked, same_grammar}
+use Rattle.cli_sigs.specs.Grammar.{Each, Counted, IsGenerics, IsParams, all_fixed, some_extra, method_of, IsMethod, method, named_byte, modifier_byte, Layer, prim, ptr, by_ref, named, var, mvar, array, inst, func, sz_array, modified, pinned}
+use Rattle.cli_sigs.specs.Read.{Outcome, Reader, and_then, ◌>>=◌, pure, maps, byte_as, byte_where, many}
+use Rattle.cli_sigs.specs.Reading.{packed, signed, generics_after, open_params, params_after, method_at, named_value, array_of, inst_of, modified_of, type_after}
+use Rattle.cli_sigs.proofs.Readers.{IsReader, Avoids, Then, Nothing, IsByte, IsByteAs, Image, Many, Marked, reads-bind, reads-pure, reads-byte, reads-as, reads-maps, reads-many, reads-marked, same_grammar}
 use Rattle.cli_sigs.proofs.Packed.{reads-packed, reads-signed, reads-counted}
-use Rattle.cli_sigs.proofs.Zeros.{IsZero, reads-zero}
 
 -- ---- bytes and element types
 

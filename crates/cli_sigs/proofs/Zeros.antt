@@ -1,7 +1,6 @@
 -- The number 0 in its three spellings: a count of no items.
-use Rattle.std.proofs.Common.{◌≡◌, ◌==◌, ℕ, zero, suc, ◌+◌, ◌*◌, ◌^◌, ◌<◌, ◌≤◌, Bool, true, false, ◌||◌, List, [], ◌∷◌, ◌++◌, refl, sym, ap, subst, ◌∙◌, arith, inl, inr, ◌⊎◌}
-use Rattle.std.proofs.lemmas.Bool.{eqb-true, eq-eqb}
-use Rattle.cli_sigs.specs.Read.{Reader, ◌>>=◌, pure, byte_where}
+use Rattle.std.proofs.Common.{◌≡◌, ◌==◌, ℕ, Bool, true, false, ◌||◌, List, [], ◌∷◌, refl, sym, subst, arith, inl, inr}
+use Rattle.std.proofs.lemmas.Bool.{eqb-true}
 use Rattle.cli_sigs.specs.Numbers.{IsPacked}
 use Rattle.cli_sigs.specs.Reading.{this_byte, is_zero_head, nothing_after, no_items}
 use Rattle.cli_sigs.proofs.Readers.{IsReader, Then, Nothing, IsByte, Choice, reads-bind, reads-pure, reads-byte, reads-choice, same_grammar}

@@ -106,7 +106,7 @@ IsTypeSpec = IsType 1000 Plain
 abbrev pub IsMethodSpec : List ℕ → List SigTy → Type 0
 IsMethodSpec = Behind 0x0A (Counted (IsType 1000 Plain))
 
--- ---- prefixes and spellings
+-- ---- prefixes and ends
 
 -- with some end the bytes are in the grammar
 abbrev pub Begins : {A : Type 0} → (List ℕ → A → Type 0) → List ℕ → Type 0
@@ -117,10 +117,6 @@ pub record IsLongest {A : Type 0} (G : List ℕ → A → Type 0) (bytes : List 
   pub within : at ≤ length bytes
   pub begins : Begins G (take at bytes)
   pub no_longer : (n : ℕ) → at < n → n ≤ length bytes → Begins G (take n bytes) → ⊥
-
--- it is valid: it has a spelling
-abbrev pub IsSpelled : {A : Type 0} → (List ℕ → A → Type 0) → A → Type 0
-IsSpelled G v = (text : List ℕ) × G text v
 
 -- new is old with a spelling at its end
 abbrev pub Adds : {A : Type 0} → (List ℕ → A → Type 0) → List ℕ → List ℕ → A → Type 0

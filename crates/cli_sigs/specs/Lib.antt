@@ -2,6 +2,7 @@ pub mod Elements
 pub mod Methods
 pub mod Numbers
 pub mod Grammar
+pub mod Valid
 pub mod Attributes
 pub mod Read
 pub mod Reading

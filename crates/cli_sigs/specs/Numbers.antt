@@ -1,5 +1,5 @@
 -- Compressed numbers (ECMA-335, II.23.2), as texts of bytes. A longer spelling than needed counts too.
-use Rattle.std.specs.Prelude.{◌≡◌, ℕ, ◌+◌, ◌*◌, ◌/◌, ◌%◌, ◌^◌, ◌<◌, ◌≤◌, ◌==◌, List, [], ◌∷◌, length, ℤ, pos, ◌-ℤ◌, if◌then◌else◌}
+use Rattle.std.specs.Prelude.{◌≡◌, ℕ, ◌+◌, ◌*◌, ◌/◌, ◌%◌, ◌<◌, ◌≤◌, ◌==◌, List, [], ◌∷◌, length, ℤ, pos, ◌-ℤ◌, if◌then◌else◌}
 
 -- an unsigned number: one byte below 0x80, two from 0x80, four from 0xC0, the highest first
 abbrev pub IsPacked : List ℕ → ℕ → Type 0

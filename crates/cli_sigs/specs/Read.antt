@@ -1,5 +1,5 @@
 -- Reading from left to right. A reader that stops says how many bytes are left from the first wrong one on.
-use Rattle.std.specs.Prelude.{◌≡◌, ℕ, zero, suc, Bool, ◌+◌, ◌==◌, List, [], ◌∷◌, ◌++◌, length, Option, Some, None, Result, Ok, Err, if◌then◌else◌}
+use Rattle.std.specs.Prelude.{ℕ, zero, suc, Bool, ◌+◌, ◌==◌, List, [], ◌∷◌, ◌++◌, length, Option, Some, None, Result, Ok, Err, if◌then◌else◌}
 
 abbrev pub Outcome : Type 0 → Type 0
 Outcome A = Result (A × List ℕ) ℕ

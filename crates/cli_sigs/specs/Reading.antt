@@ -1,5 +1,5 @@
 -- How signatures are read, byte by byte.
-use Rattle.std.specs.Prelude.{◌≡◌, ℕ, zero, suc, ◌+◌, ◌-◌, ◌*◌, ℤ, Bool, true, false, ◌||◌, ◌==◌, nat_lt, if◌then◌else◌, List, [], ◌∷◌, length, Option, Some, None, Result, Ok, Err}
+use Rattle.std.specs.Prelude.{◌≡◌, ℕ, zero, suc, ◌+◌, ◌-◌, ◌*◌, ℤ, Bool, true, false, ◌||◌, ◌==◌, nat_lt, if◌then◌else◌, List, [], ◌∷◌, Option, Some, None, Result, Ok, Err}
 use Rattle.cli_sigs.specs.declared.elements.Element.{Element}
 use Rattle.cli_sigs.specs.declared.elements.Element.TheVariants as e
 use Rattle.cli_sigs.specs.declared.elements.Slot.{Slot}

@@ -1,10 +1,11 @@
 // The blobs of contract attributes that name a type (ECMA-335, II.23.3; Code Contracts manual,
 // ContractClass and ContractClassFor).
-ghost use Rattle.std.specs.Prelude.{◌≡◌, ◌<◌, ◌^◌, ℕ, List, length, IfOk};
+ghost use Rattle.std.specs.Prelude.{◌≡◌, ◌<◌, ◌^◌, ℕ, List, length, reverse, IfOk};
 ghost use Rattle.cil_base.specs.Refusals.{OnRefused};
 ghost use Rattle.cli_sigs.specs.Read.{byte_where, many};
 ghost use Rattle.cli_sigs.specs.Reading.{Gives, is_byte, counted, attribute};
-ghost use Rattle.cli_sigs.specs.Attributes.{IsTypeAttribute};
+ghost use Rattle.std.specs.Option.{option_map};
+ghost use Rattle.cli_sigs.specs.Attributes.{IsTypeAttribute, before_comma, behind_comma, from_front, up_to_end, assembly_in};
 ghost use Rattle.cli_sigs.specs.Answers.{GivesOnly, AtLongest};
 
 use crate::blobs::whole;
@@ -57,4 +58,83 @@ pub fn read_type_attribute(alloc: Global, blob: &[u8], place: Place) -> Result<N
 {
     let read = attribute_of(alloc, blob);
     whole(read, blob, place, Rule::S2)
+}
+
+/// A text that names a type.
+#[derive(Clone, Copy, Debug)]
+pub struct TypeName<'a> {
+    /// The type's name, with `+` before the name of a nested type.
+    pub type_name: &'a [u8],
+    /// The simple name of the assembly; none where the type is in the same assembly.
+    pub assembly: Option<&'a [u8]>,
+}
+
+/// What ends a type name and an assembly name.
+const COMMA: u8 = b',';
+
+fn before_comma(text: &[u8]) -> &[u8]
+    ensures { result.now ≡ before_comma text.now }
+{
+    for (at, b) in text.iter().enumerate() {
+        if *b == COMMA {
+            return &text[..at];
+        }
+    }
+    text
+}
+
+fn behind_comma(text: &[u8]) -> Option<&[u8]>
+    ensures { option_map (λ x. x.now) result ≡ behind_comma text.now }
+{
+    let mut rest = text;
+    while let [b, after @ ..] = rest {
+        if *b == COMMA {
+            return Some(after);
+        }
+        rest = after;
+    }
+    None
+}
+
+fn from_front(text: &[u8]) -> &[u8]
+    ensures { result.now ≡ from_front text.now }
+{
+    let mut rest = text;
+    while let [b' ', after @ ..] = rest {
+        rest = after;
+    }
+    rest
+}
+
+fn up_to_end(text: &[u8]) -> &[u8]
+    ensures { result.now ≡ up_to_end text.now }
+{
+    let mut rest = text;
+    while let [before @ .., b' '] = rest {
+        rest = before;
+    }
+    rest
+}
+
+/// Splits the text of an attribute that names a type: what stands before the first comma, and what
+/// stands between it and the next comma or the end, without blanks at the front and at the end.
+/// Takes no memory.
+pub fn split_type_name(text: &[u8]) -> TypeName<'_>
+    ensures type_name { result.type_name.now ≡ before_comma text.now }
+    ensures assembly { option_map (λ x. x.now) result.assembly ≡ assembly_in text.now }
+{
+    let type_name = before_comma(text);
+    match behind_comma(text) {
+        Some(rest) => {
+            let assembly = Some(up_to_end(from_front(before_comma(rest))));
+            TypeName {
+                type_name,
+                assembly,
+            }
+        }
+        None => TypeName {
+            type_name,
+            assembly: None,
+        },
+    }
 }

@@ -4,6 +4,7 @@ ghost use Rattle.cil_base.specs.Refusals.{OnRefused};
 ghost use Rattle.cli_sigs.specs.declared.types.SigTy.{SigTy};
 ghost use Rattle.cli_sigs.specs.declared.types.MethodSig.{MethodSig};
 ghost use Rattle.cli_sigs.specs.Grammar.{IsMethodSig, IsPropertySig, IsFieldSig, IsLocals, IsTypeSpec, IsMethodSpec};
+ghost use Rattle.cli_sigs.specs.Valid.{IsValidMethodSig, AreValidLocals, IsValidTypeSpec, IsValidMethodSpec};
 ghost use Rattle.cli_sigs.specs.Reading.{Gives, field_at, list_at};
 ghost use Rattle.cli_sigs.specs.Answers.{GivesOnly, AtLongest, Concludes, Within};
 ghost use Rattle.std.specs.Prelude.{List};
@@ -64,6 +65,7 @@ fn list_of(alloc: Global, first: u8, slot: Slot, bytes: &[u8]) -> Result<(SigTys
 pub fn read_method_sig(alloc: Global, blob: &[u8], place: Place) -> Result<MethodSig, Fault>
     requires { length blob.now < 2 ^ 32 }
     ensures found { IfOk result (λ sig. IsMethodSig blob.now sig) }
+    ensures valid { IfOk result (λ sig. IsValidMethodSig sig) }
     ensures only { (sig : MethodSig) → IsMethodSig blob.now sig → GivesOnly result sig }
     ensures refused { OnRefused result (AtLongest Rule.S1 place IsMethodSig blob.now) }
 {
@@ -86,6 +88,7 @@ pub fn read_property_sig(alloc: Global, blob: &[u8], place: Place) -> Result<Met
 pub fn read_field_sig(alloc: Global, blob: &[u8], place: Place) -> Result<SigTy, Fault>
     requires { length blob.now < 2 ^ 32 }
     ensures found { IfOk result (λ t. IsFieldSig blob.now t) }
+    ensures valid { IfOk result (λ t. IsValidTypeSpec t) }
     ensures only { (t : SigTy) → IsFieldSig blob.now t → GivesOnly result t }
     ensures refused { OnRefused result (AtLongest Rule.S1 place IsFieldSig blob.now) }
 {
@@ -97,6 +100,7 @@ pub fn read_field_sig(alloc: Global, blob: &[u8], place: Place) -> Result<SigTy,
 pub fn read_locals(alloc: Global, blob: &[u8], place: Place) -> Result<SigTys, Fault>
     requires { length blob.now < 2 ^ 32 }
     ensures found { IfOk result (λ ts. IsLocals blob.now ts) }
+    ensures valid { IfOk result (λ ts. AreValidLocals ts) }
     ensures only { (ts : List SigTy) → IsLocals blob.now ts → GivesOnly result ts }
     ensures refused { OnRefused result (AtLongest Rule.S1 place IsLocals blob.now) }
 {
@@ -108,6 +112,7 @@ pub fn read_locals(alloc: Global, blob: &[u8], place: Place) -> Result<SigTys, F
 pub fn read_type_spec(alloc: Global, blob: &[u8], place: Place) -> Result<SigTy, Fault>
     requires { length blob.now < 2 ^ 32 }
     ensures found { IfOk result (λ t. IsTypeSpec blob.now t) }
+    ensures valid { IfOk result (λ t. IsValidTypeSpec t) }
     ensures only { (t : SigTy) → IsTypeSpec blob.now t → GivesOnly result t }
     ensures refused { OnRefused result (AtLongest Rule.S1 place IsTypeSpec blob.now) }
 {
@@ -119,6 +124,7 @@ pub fn read_type_spec(alloc: Global, blob: &[u8], place: Place) -> Result<SigTy,
 pub fn read_method_spec(alloc: Global, blob: &[u8], place: Place) -> Result<SigTys, Fault>
     requires { length blob.now < 2 ^ 32 }
     ensures found { IfOk result (λ ts. IsMethodSpec blob.now ts) }
+    ensures valid { IfOk result (λ ts. IsValidMethodSpec ts) }
     ensures only { (ts : List SigTy) → IsMethodSpec blob.now ts → GivesOnly result ts }
     ensures refused { OnRefused result (AtLongest Rule.S1 place IsMethodSpec blob.now) }
 {

@@ -6,15 +6,17 @@ mod attribute;
 mod blobs;
 mod elements;
 mod numbers;
+mod printing;
 mod reading;
 #[cfg(test)]
 mod tests;
 mod types;
 
-pub use attribute::read_type_attribute;
+pub use attribute::{TypeName, read_type_attribute, split_type_name};
 pub use blobs::{
     read_field_sig, read_locals, read_method_sig, read_method_spec, read_property_sig,
     read_type_spec,
 };
 pub use elements::{Element, MethodKind, Slot};
+pub use printing::{print_locals, print_method_sig, print_method_spec, print_type};
 pub use types::{MethodSig, SigTy, SigTys};

@@ -21,9 +21,9 @@ pub struct Params {
 }
 
 /// SENTINEL.
-const SENTINEL: u8 = 0x41;
+pub const SENTINEL: u8 = 0x41;
 
-fn is_generic(flags: u8) -> bool
+pub fn is_generic(flags: u8) -> bool
     ensures { result ≡ is_generic flags }
 {
     flags & 0x10 != 0

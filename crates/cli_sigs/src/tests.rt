@@ -1,6 +1,7 @@
 // Rows of the readers; expected values are worked out by hand from ECMA-335, II.23.2.
 use crate::*;
-use cil_base::{Fault, Place, Rule};
+use cil_base::{Bytes, Fault, Place, Rule};
+use sqlite_items::Boxed;
 use std::alloc::Global;
 use std::process::Abort;
 use std::test::Fail;
@@ -313,6 +314,108 @@ fn limits_the_depth_of_types(rt: HostRuntime) -> Result<(), Fail> {
         None
     );
     Ok(())
+}
+
+/// The blob of a method, read and printed.
+fn method_again(rt: &impl Abort, alloc: Global, blob: &[u8]) -> Result<Bytes, Fail> {
+    let len = blob.len();
+    assert!(rt; len < 16);
+    let sig = read_method_sig(alloc, blob, PLACE)?;
+    Ok(print_method_sig(alloc, &sig)?)
+}
+
+/// The blob of a TypeSpec row, read and printed.
+fn type_again(rt: &impl Abort, alloc: Global, blob: &[u8]) -> Result<Bytes, Fail> {
+    let len = blob.len();
+    assert!(rt; len < 2000);
+    let ty = read_type_spec(alloc, blob, PLACE)?;
+    Ok(print_type(alloc, &ty)?)
+}
+
+#[test]
+fn prints_methods_as_they_were_read(rt: HostRuntime) -> Result<(), Fail> {
+    let alloc = rt.alloc();
+    let rows: [&[u8]; 4] = [
+        &[0x20, 0x01, 0x08, 0x08],
+        // Generic; with SENTINEL; with FNPTR of an unmanaged convention.
+        &[0x30, 0x02, 0x01, 0x1E, 0x01, 0x13, 0x00],
+        &[0x05, 0x02, 0x01, 0x0E, 0x41, 0x08],
+        &[0x00, 0x01, 0x1B, 0x02, 0x01, 0x01, 0x10, 0x08, 0x16],
+    ];
+    for blob in rows.iter() {
+        let printed = method_again(&rt, alloc, blob)?;
+        assert!(rt; printed.as_slice() == *blob);
+    }
+    // A longer spelling of a number is not kept.
+    let printed = method_again(&rt, alloc, &[0x20, 0x80, 0x01, 0x08, 0x08])?;
+    assert!(rt; printed.as_slice() == [0x20, 0x01, 0x08, 0x08].as_slice());
+    Ok(())
+}
+
+#[test]
+fn prints_lists_as_they_were_read(rt: HostRuntime) -> Result<(), Fail> {
+    let alloc = rt.alloc();
+    let locals = read_locals(alloc, &[0x07, 0x01, 0x08], PLACE)?;
+    let printed = print_locals(alloc, &locals)?;
+    assert!(rt; printed.as_slice() == [0x07, 0x01, 0x08].as_slice());
+    let args = read_method_spec(alloc, &[0x0A, 0x01, 0x08], PLACE)?;
+    let printed = print_method_spec(alloc, &args)?;
+    assert!(rt; printed.as_slice() == [0x0A, 0x01, 0x08].as_slice());
+    Ok(())
+}
+
+#[test]
+fn prints_types_as_they_were_read(rt: HostRuntime) -> Result<(), Fail> {
+    let alloc = rt.alloc();
+    let rows: [&[u8]; 3] = [
+        &[0x1D, 0x08],
+        &[0x15, 0x12, 0x05, 0x02, 0x08, 0x0F, 0x01],
+        // Rank 3, one size, and the lower bounds -3, 64, -8192, 8192 and -2^28.
+        &[
+            0x14, 0x08, 0x03, 0x01, 0x81, 0x00, 0x05, 0x7B, 0x80, 0x80, 0x80, 0x01, 0xC0, 0x00,
+            0x40, 0x00, 0xC0, 0x00, 0x00, 0x01,
+        ],
+    ];
+    for blob in rows.iter() {
+        let printed = type_again(&rt, alloc, blob)?;
+        assert!(rt; printed.as_slice() == *blob);
+    }
+    let mut deepest = Vec::new(alloc);
+    for _ in 0..999 {
+        deepest.push(0x0F)?;
+    }
+    deepest.push(0x08)?;
+    let printed = type_again(&rt, alloc, deepest.as_slice())?;
+    assert!(rt; printed.as_slice() == deepest.as_slice());
+    Ok(())
+}
+
+#[test]
+fn prints_a_type_that_was_made(rt: HostRuntime) -> Result<(), Fail> {
+    let alloc = rt.alloc();
+    let item = Boxed::new(alloc, SigTy::Prim(0x0E))?;
+    let printed = print_type(alloc, &SigTy::SzArray(item))?;
+    assert!(rt; printed.as_slice() == [0x1D, 0x0E].as_slice());
+    Ok(())
+}
+
+/// Whether the text is split into the type name and the assembly's name.
+fn splits(text: &[u8], type_name: &[u8], assembly: Option<&[u8]>) -> bool {
+    let split = split_type_name(text);
+    let same = match (split.assembly, assembly) {
+        (Some(found), Some(wanted)) => found == wanted,
+        (None, None) => true,
+        _ => false,
+    };
+    same && split.type_name == type_name
+}
+
+#[test]
+fn splits_type_names(rt: HostRuntime) {
+    assert!(rt; splits(b"N.T+U", b"N.T+U", None));
+    assert!(rt; splits(b"N.T+U,  A B , Version=1.0", b"N.T+U", Some(b"A B")));
+    assert!(rt; splits(b" X ,A", b" X ", Some(b"A")));
+    assert!(rt; splits(b"X,  ", b"X", Some(b"")));
 }
 
 #[test]

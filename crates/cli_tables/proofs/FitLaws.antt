@@ -1,18 +1,17 @@
 -- Numbers that are read fit their columns.
-use Rattle.std.proofs.Common.{◌≡◌, ◌⊎◌, ℕ, zero, suc, ◌+◌, ◌-◌, ◌*◌, ◌^◌, ◌<◌, ◌≤◌, Bool, true, false, not, List, [], ◌∷◌, length, get_or, drop, map, Some, refl, sym, ap, ◌∙◌, subst, inl, inr, arith}
-use Rattle.std.specs.List.{range_with_len, list_all}
-use Rattle.std.specs.Prelude.{slice_index}
+use Rattle.std.proofs.Common.{◌≡◌, ℕ, zero, suc, ◌+◌, ◌*◌, ◌^◌, ◌<◌, Bool, true, false, not, List, get_or, drop, Some, sym, subst, inl, inr, arith}
+use Rattle.std.specs.List.{list_all}
 use Rattle.std.proofs.lemmas.List.{get_or_past, get_or-drop}
 use Rattle.std.proofs.lemmas.List.FromFn.{get_or-map-range_with_len, length-map-range_with_len}
 use Rattle.std.proofs.lemmas.Bool.{cases_lt}
 use Rattle.std.proofs.Math.Nat.{pow-suc}
-use Rattle.byteorder.specs.Endian.{little_from, little_number}
+use Rattle.byteorder.specs.Endian.{little_from}
 use Rattle.cil_base.specs.Numbers.{num}
 use Rattle.cli_tables.specs.declared.schema.Column.{Column}
 use Rattle.cli_tables.specs.declared.schema.Column.TheVariants.{U8, U16, U32, StringIndex, GuidIndex, BlobIndex, Row, FirstRow, Coded}
 use Rattle.cli_tables.specs.declared.sizes.Sizes.{Sizes}
-use Rattle.cli_tables.specs.Schema.{columns_of, tag_bits, coded_tables}
-use Rattle.cli_tables.specs.Stream.{width_of, row_width, offset_of, kind_of, strided, index_width, has_few}
+use Rattle.cli_tables.specs.Schema.{tag_bits, coded_tables}
+use Rattle.cli_tables.specs.Stream.{width_of, row_width, offset_of, kind_of, index_width, has_few}
 use Rattle.cli_tables.specs.Layout.{column_in}
 use Rattle.cli_tables.specs.Tables.{limit_of}
 

@@ -11,3 +11,5 @@ pub mod ShapeLaws
 pub mod GrowthLaws
 pub mod SetLaws
 pub mod BlankLaws
+pub mod PieceLaws
+pub mod WrittenLaws

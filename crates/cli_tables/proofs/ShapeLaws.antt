@@ -128,17 +128,16 @@ shaped meta bytes a none short h = record {
 no_column : (bytes : List ℕ) (t c : ℕ) → length (columns_of t) ≤ c → column_of (tables_in bytes) t c ≡ []
 no_column bytes t c past = get_or_past (get_or (tables_in bytes) t []) c [] (omega (arith, width_of_table bytes t))
 
--- where there is a cell
-cell_is : (bytes : List ℕ) (t c k : ℕ) → c < length (columns_of t) → k < rows_in bytes t → slice_get (column_of (tables_in bytes) t c) k ≡ Some (cell bytes t (k + 1) c)
-cell_is bytes t c k lt below =
-    slice_get-get_or (column_of (tables_in bytes) t c) k 0 (omega (arith, rows_read bytes t c lt))
-    ∙ ap (λ (v : ℕ). Some v) (ap (λ (cs : List (List ℕ)). get_or (get_or cs c []) k 0) (table_at bytes t (is_read t c lt)) ∙ cell_read bytes (table_start bytes t) t (rows_in bytes t) c k lt below refl)
-
-cells_in : (bytes : List ℕ) (t r c : ℕ) → cell_of (tables_in bytes) t r c ≡ cell_at bytes t r c
-cells_in bytes t zero c = refl
-cells_in bytes t (suc k) c =
-    ap (λ (b : Bool). cond b None (slice_get (column_of (tables_in bytes) t c) (suc k - 1))) (ne_eqb (suc k) 0 (λ z. absurd (omega (arith, z))))
-    ∙ ap (λ (j : ℕ). slice_get (column_of (tables_in bytes) t c) j) less ∙ go (cases_lt c (length (columns_of t))) (cases_lt k (rows_in bytes t))
+-- tables whose columns hold the cells of the stream
+pub cells_match : (ts : List (List (List ℕ))) (bytes : List ℕ)
+    → ((t c : ℕ) → c < length (columns_of t) → length (column_of ts t c) ≡ rows_in bytes t)
+    → ((t c : ℕ) → length (columns_of t) ≤ c → column_of ts t c ≡ [])
+    → ((t c k : ℕ) → c < length (columns_of t) → k < rows_in bytes t → get_or (column_of ts t c) k 0 ≡ cell bytes t (k + 1) c)
+    → (t r c : ℕ) → cell_of ts t r c ≡ cell_at bytes t r c
+cells_match ts bytes many none here t zero c = refl
+cells_match ts bytes many none here t (suc k) c =
+    ap (λ (b : Bool). cond b None (slice_get (column_of ts t c) (suc k - 1))) (ne_eqb (suc k) 0 (λ z. absurd (omega (arith, z))))
+    ∙ ap (λ (j : ℕ). slice_get (column_of ts t c) j) less ∙ go (cases_lt c (length (columns_of t))) (cases_lt k (rows_in bytes t))
   where
     less : suc k - 1 ≡ k
     less = omega arith
@@ -155,16 +154,20 @@ cells_in bytes t (suc k) c =
     no_col true false s v f = refl
     no_col false q s v f = refl
 
-    go : (c < length (columns_of t)) ⊎ (length (columns_of t) ≤ c) → (k < rows_in bytes t) ⊎ (rows_in bytes t ≤ k) → slice_get (column_of (tables_in bytes) t c) k ≡ cell_at bytes t (suc k) c
+    go : (c < length (columns_of t)) ⊎ (length (columns_of t) ≤ c) → (k < rows_in bytes t) ⊎ (rows_in bytes t ≤ k) → slice_get (column_of ts t c) k ≡ cell_at bytes t (suc k) c
     go (inl lt) (inl below) =
-        cell_is bytes t c k lt below ∙ ap (λ (j : ℕ). Some (cell bytes t j c)) (add-one k)
+        slice_get-get_or (column_of ts t c) k 0 (omega (arith, many t c lt)) ∙ ap (λ (v : ℕ). Some v) (here t c k lt below) ∙ ap (λ (j : ℕ). Some (cell bytes t j c)) (add-one k)
         ∙ yes (leb 1 (suc k)) (leb (suc k) (rows_in bytes t)) (ltb c (length (columns_of t))) (cell bytes t (suc k) c) (le-leb 1 (suc k) (omega arith)) (le-leb (suc k) (rows_in bytes t) (omega arith)) (lt-ltb c (length (columns_of t)) lt)
     go (inl lt) (inr past) =
-        slice_get_past (column_of (tables_in bytes) t c) k (omega (arith, rows_read bytes t c lt))
+        slice_get_past (column_of ts t c) k (omega (arith, many t c lt))
         ∙ no_row (leb 1 (suc k)) (leb (suc k) (rows_in bytes t)) (ltb c (length (columns_of t))) (cell bytes t (suc k) c) (lt-leb (suc k) (rows_in bytes t) (omega arith))
     go (inr out) h =
-        ap (λ (l : List ℕ). slice_get l k) (no_column bytes t c out)
+        ap (λ (l : List ℕ). slice_get l k) (none t c out)
         ∙ no_col (leb 1 (suc k)) (leb (suc k) (rows_in bytes t)) (ltb c (length (columns_of t))) (cell bytes t (suc k) c) (le-ltb c (length (columns_of t)) out)
+
+cells_in : (bytes : List ℕ) (t r c : ℕ) → cell_of (tables_in bytes) t r c ≡ cell_at bytes t r c
+cells_in bytes = cells_match (tables_in bytes) bytes (rows_read bytes) (no_column bytes)
+    (λ t c k lt below. ap (λ (cs : List (List ℕ)). get_or (get_or cs c []) k 0) (table_at bytes t (is_read t c lt)) ∙ cell_read bytes (table_start bytes t) t (rows_in bytes t) c k lt below refl)
 
 pub are_in : (bytes : List ℕ) (offset a : ℕ) → NoneBroken (Fails (header_tests bytes offset a)) → AreIn bytes (tables_in bytes)
 are_in bytes offset a none = record {

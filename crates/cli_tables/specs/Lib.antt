@@ -5,3 +5,4 @@ pub mod Layout
 pub mod Growth
 pub mod TableRules
 pub mod CellRules
+pub mod Written

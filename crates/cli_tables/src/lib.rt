@@ -8,6 +8,7 @@ mod schema;
 mod sizes;
 mod table;
 mod tables;
+mod written;
 
 pub use schema::{CodedIndex, Column, TABLE_COUNT, columns};
 pub use sizes::Sizes;

@@ -1,6 +1,6 @@
 // The tables of an assembly (ECMA-335, II.22).
-ghost use Rattle.std.specs.Prelude.{◌≡◌, ◌+◌, ◌-◌, ◌<◌, ◌≤◌, ◌^◌, ◌↔◌, length, map, ℕ, IsSome, IfOk, OnOk, OnErr, true};
-ghost use Rattle.cil_base.specs.Refusals.{First, NoneBroken, InTurn, OnRefused};
+ghost use Rattle.std.specs.Prelude.{◌≡◌, ◌⊎◌, ℕ, ◌+◌, ◌-◌, ◌<◌, ◌≤◌, ◌^◌, ◌++◌, ◌↔◌, length, map, IsSome, MatchOption, IfOk, OnOk, OnErr, true};
+ghost use Rattle.cil_base.specs.Refusals.{First, NoneBroken, InTurn, Fails, OnRefused};
 ghost use Rattle.cli_heaps.specs.Root.{tables};
 ghost use Rattle.cli_tables.specs.TableRules.{HeaderBroken, RowsBroken};
 ghost use Rattle.lane_cols.specs.Places.{places};
@@ -8,13 +8,17 @@ ghost use Rattle.cli_tables.specs.Schema.{columns_of};
 ghost use Rattle.cli_tables.specs.Tables.{column_of, rows_of, cell_of, HasCell, IsShaped, AreIn, IsRow, IsAppended, IsSet, fits_column, rows_with, blank_tables};
 ghost use Rattle.cli_tables.specs.Stream.{kind_of};
 ghost use Rattle.cli_tables.specs.Growth.{table_full};
+ghost use Rattle.cli_tables.specs.Written.{counts_to, is_many, sizes_to, stream_in, column_fits, table_fits, indexes_fit, NoneFull, IsOverfull, AreOfOne, Holds};
+ghost use Rattle.cli_heaps.specs.Written.{filled, GrewFrom, IsWritten, EntriesRead, limit_tests};
 
 use crate::header::first_in_header;
 use crate::reading::{blank_tables, read_tables};
-use crate::sizes::{read_sizes, rows_start_of};
+use crate::schema::{TABLE_COUNT, columns};
+use crate::sizes::{Sizes, read_sizes, rows_start_of};
 use crate::table::Table;
-use cil_base::{Fault, Refusal, Rule, U32s};
-use cli_heaps::Heaps;
+use crate::written::{fits_width, is_index, write_stream};
+use cil_base::{Bytes, Fault, Refusal, Rule, U32s};
+use cli_heaps::{HeapBuilder, Heaps, write_metadata};
 use lane_cols::places_of;
 use std::alloc::{AllocError, Global};
 use std::marker::Model;
@@ -149,6 +153,97 @@ impl Tables {
         self.tables[table as usize].set(column as usize, row as usize - 1, value);
     }
 
+    /// The whole metadata of these tables, with the heaps that have grown: columns are as wide as
+    /// the rows and heaps that are written make them. The version text and unknown streams stay. L5
+    /// where a table has over 2^24 - 1 rows (II.24.2.6), or as `write_metadata` says.
+    pub fn write(
+        &self,
+        alloc: Global,
+        heaps: &Heaps<'_>,
+        grown: &HeapBuilder,
+    ) -> Result<Bytes, Fault>
+        requires grew { GrewFrom heaps.now.bytes grown.now }
+        requires fit { indexes_fit (sizes_to heaps.now.bytes grown.now self.now) self.now ≡ true }
+        ensures written { IfOk result (IsWritten heaps.now.bytes grown.now (stream_in heaps.now.bytes grown.now self.now)) }
+        ensures entries { IfOk result (EntriesRead heaps.now.bytes grown.now) }
+        ensures cells { IfOk result (λ new. AreIn (tables new) self.now) }
+        ensures holds { IfOk result (λ new. Holds (tables heaps.now.bytes) (sizes_to heaps.now.bytes grown.now self.now) self.now (tables new)) }
+        ensures header { IfOk result (λ new. AreOfOne self.now → (assembly : ℕ) → NoneBroken (HeaderBroken new assembly)) }
+        ensures room { OnOk result (NoneFull self.now) }
+        ensures limits { OnOk result (NoneBroken (Fails (limit_tests heaps.now.bytes grown.now (stream_in heaps.now.bytes grown.now self.now)))) }
+        ensures refused { OnRefused result (λ r. IsOverfull self.now r ⊎ Fails (limit_tests heaps.now.bytes grown.now (stream_in heaps.now.bytes grown.now self.now)) r) }
+    {
+        if let Some(table) = self.first_full() {
+            return Err(Fault::Refused(full(table)));
+        }
+        let sizes = self.written_sizes(heaps, grown);
+        let old = heaps.tables();
+        let stream = write_stream(alloc, old, &sizes, self.tables.as_slice())?;
+        write_metadata(alloc, heaps, grown, &stream)
+    }
+
+    /// Whether each index fits the width that its column has in what `write` makes.
+    #[tactic(auto, unfolding(crate::specs::Written::indexes_fit))]
+    pub fn fits(&self, heaps: &Heaps<'_>, grown: &HeapBuilder) -> bool
+        ensures { result ≡ indexes_fit (sizes_to heaps.now.bytes grown.now self.now) self.now }
+    {
+        let sizes = self.written_sizes(heaps, grown);
+        (0..TABLE_COUNT as u8).all(|table| self.table_fits(&sizes, table))
+    }
+
+    fn table_fits(&self, sizes: &Sizes, table: u8) -> bool
+        ensures { result ≡ table_fits sizes.now self.now table }
+    {
+        (0..columns(table).len() as u8).all(|column| self.column_fits(sizes, table, column))
+    }
+
+    fn column_fits(&self, sizes: &Sizes, table: u8, column: u8) -> bool
+        ensures { result ≡ column_fits sizes.now self.now table column }
+    {
+        match columns(table).get(column as usize) {
+            None => true,
+            Some(kind) => {
+                !is_index(*kind) || fits_width(self.column(table, column), sizes.width(*kind))
+            }
+        }
+    }
+
+    /// A table that has more rows than a written one may have.
+    fn first_full(&self) -> Option<u8>
+        ensures { MatchOption result (NoneFull self.now) (λ table. 2 ^ 24 - 1 < rows_of self.now table) }
+    {
+        let _ = &self.tables;
+        for table in 0..TABLE_COUNT as u8 {
+            if self.rows(table) > MOST_ROWS {
+                return Some(table);
+            }
+        }
+        None
+    }
+
+    /// How many rows each table has.
+    fn counts(&self) -> [u32; 64]
+        ensures { result ≡ counts_to self.now }
+    {
+        let mut counts = [0; 64];
+        for table in 0..64u8 {
+            counts[table as usize] = self.rows(table);
+        }
+        counts
+    }
+
+    /// The sizes of what is written.
+    fn written_sizes(&self, heaps: &Heaps<'_>, grown: &HeapBuilder) -> Sizes
+        ensures { result ≡ sizes_to heaps.now.bytes grown.now self.now }
+    {
+        Sizes {
+            counts: self.counts(),
+            wide_strings: is_large(heaps.strings(), grown.strings_added()),
+            wide_guids: heaps.guids().len() / 16 > MOST_PLACES,
+            wide_blobs: is_large(heaps.blobs(), grown.blobs_added()),
+        }
+    }
+
     fn push(&mut self, table: u8, cells: &[u32]) -> Result<(), AllocError>
         requires row { IsRow table cells.now }
         requires room { rows_of self.old table + 1 < 2 ^ 32 }
@@ -161,6 +256,16 @@ impl Tables {
 
 /// The most rows that a written table may have.
 const MOST_ROWS: u32 = 0xFF_FFFF;
+
+/// The most places that two bytes tell.
+const MOST_PLACES: usize = 0xFFFF;
+
+/// Whether a heap has more places once it is filled to a multiple of 4.
+fn is_large(old: &[u8], added: &[u8]) -> bool
+    ensures { result ≡ is_many (length (filled (old.now ++ added.now))) }
+{
+    old.len() + added.len() > MOST_PLACES - 3
+}
 
 fn full(table: u8) -> Refusal
     ensures { result ≡ table_full table }

@@ -1,7 +1,7 @@
 // Tables that are read, or refused at a place.
 use crate::Tables;
-use cil_base::{Fault, Rule};
-use cli_heaps::Heaps;
+use cil_base::{Bytes, Fault, Rule};
+use cli_heaps::{HeapBuilder, Heaps};
 use std::alloc::{AllocError, Global};
 
 // The root with its stream headers, the heaps at 72 and 80, and `#~` at 84: one Module, two
@@ -134,5 +134,85 @@ fn rows_are_appended_and_cells_written(rt: HostRuntime) -> Result<(), Fault> {
         (tables.cell(2, 1, 0), tables.cell(2, 2, 0)),
         (Some(7), Some(1))
     );
+    Ok(())
+}
+
+/// The sample with so many TypeRef rows, the last of which its new rows and a TypeDef row name.
+#[tactic(auto, unfolding(crate::specs::Schema::the_tables))]
+fn with_rows(alloc: Global, heaps: &Heaps<'_>, rows: u32) -> Result<Tables, Fault>
+    requires { rows < 2 ^ 20 }
+{
+    let mut tables = Tables::read(alloc, heaps, 0)?;
+    for _row in 0..rows {
+        tables.append(0x01, &[4 * rows + 3, 1, 4])?;
+    }
+    if tables.cell(2, 2, 3).is_some() {
+        tables.set(2, 2, 3, 4 * rows + 1);
+    }
+    Ok(tables)
+}
+
+/// The same, written; None where an index doesn't fit.
+fn written(alloc: Global, rows: u32) -> Result<Option<Bytes>, Fault>
+    requires { rows < 2 ^ 20 }
+{
+    match Heaps::read(&META, 0) {
+        Err(refusal) => Err(Fault::Refused(refusal)),
+        Ok(heaps) => {
+            let tables = with_rows(alloc, &heaps, rows)?;
+            let grown = HeapBuilder::new(alloc, &heaps)?;
+            if !tables.fits(&heaps, &grown) {
+                return Ok(None);
+            }
+            Ok(Some(tables.write(alloc, &heaps, &grown)?))
+        }
+    }
+}
+
+/// Whether the metadata has a stream of tables of this length, and the rows read back.
+fn reads_back(alloc: Global, meta: &[u8], rows: u32, len: usize) -> Result<bool, Fault>
+    requires { rows < 2 ^ 20 }
+{
+    if meta.len() > 1 << 20 {
+        return Ok(false);
+    }
+    match Heaps::read(meta, 0) {
+        Err(refusal) => Err(Fault::Refused(refusal)),
+        Ok(heaps) => {
+            let tables = Tables::read(alloc, &heaps, 0)?;
+            Ok(
+                heaps.tables().len() == len
+                    && tables.rows(1) == rows
+                    && tables.cell(1, rows, 0) == Some(4 * rows + 3)
+                    && tables.cell(2, 2, 3) == Some(4 * rows + 1)
+                    && tables.cell(0x20, 1, 0) == Some(0x8004),
+            )
+        }
+    }
+}
+
+#[test]
+fn many_rows_widen_the_indexes_that_name_them(rt: HostRuntime) -> Result<(), Fault> {
+    // rows of 6, 14, 10, 14 and 22 bytes behind a header of 44; then two coded indexes are wide
+    for (rows, len) in [(16_383u32, 98_416usize), (16_384, 131_196)] {
+        match written(rt.alloc(), rows)? {
+            None => assert!(rt; false),
+            Some(meta) => assert!(rt; reads_back(rt.alloc(), meta.as_slice(), rows, len)?),
+        }
+    }
+    Ok(())
+}
+
+#[test]
+fn an_index_past_its_width_is_told(rt: HostRuntime) -> Result<(), Fault> {
+    if let Ok(heaps) = Heaps::read(&META, 0) {
+        let mut tables = Tables::read(rt.alloc(), &heaps, 0)?;
+        let grown = HeapBuilder::new(rt.alloc(), &heaps)?;
+        assert!(rt; tables.fits(&heaps, &grown));
+        if tables.cell(2, 1, 4).is_some() {
+            tables.set(2, 1, 4, 0x1_0000);
+        }
+        assert!(rt; !tables.fits(&heaps, &grown));
+    }
     Ok(())
 }

@@ -1,13 +1,13 @@
 -- Which header fields an image has that breaks no rule, and that no rule is broken where it has them.
-use Rattle.std.proofs.Common.{◌≡◌, ℕ, zero, suc, ◌+◌, ◌-◌, ◌*◌, ◌^◌, ◌<◌, ◌≤◌, Bool, true, false, cond, not, leb, ltb, eqb, ◌||◌, ◌&&◌, List, [], ◌∷◌, ◌++◌, length, Option, Some, None, refl, sym, ap, subst, ◌∙◌, arith}
+use Rattle.std.proofs.Common.{◌≡◌, ℕ, ◌+◌, ◌≤◌, Bool, true, false, cond, not, leb, eqb, ◌||◌, ◌&&◌, List, [], ◌∷◌, ◌++◌, length, Option, Some, None, refl, sym, ap, subst, ◌∙◌, arith}
 use Rattle.std.specs.Prelude.{nat_lt, nat_le, is_some}
-use Rattle.std.proofs.lemmas.Bool.{leb-true, le-leb, ltb-false, le-ltb}
+use Rattle.std.proofs.lemmas.Bool.{le-leb, ltb-false, le-ltb, and_right}
 use Rattle.cil_base.specs.declared.rule.Rule.TheVariants.{P1, P2, P3, P4}
 use Rattle.cil_base.specs.Refusals.{Test, first_of}
 use Rattle.cil_base.specs.Numbers.{num}
 use Rattle.pe_image.specs.declared.headers.Headers.{Headers}
 use Rattle.pe_image.specs.declared.section.Section.{Section}
-use Rattle.pe_image.specs.Headers.{Fit, pe_of, headers_at, headers_of, section_alignment, file_alignment, headers_size, cli_rva, table_end}
+use Rattle.pe_image.specs.Headers.{pe_of, headers_at, headers_of, section_alignment, file_alignment, headers_size, cli_rva, table_end}
 use Rattle.pe_image.specs.Sections.{section_of}
 use Rattle.pe_image.specs.Rules.{test, field, cut, cuts, section_tests, size_fields, directory_fields, is_whole, has_no_cli, directory_tests, is_file_alignment, optional_tests, is_magic, is_short, coff_tests, has_pe, pe_tests, has_mz, header_tests}
 use Rattle.pe_image.proofs.SectionLaws.{none_of}
@@ -29,6 +29,9 @@ not_false false e = absurd cc
 
 pub not_true : (p : Bool) → p ≡ true → not p ≡ false
 not_true p e = ap not e
+
+both : (p q : Bool) → p ≡ true → q ≡ false → (p && not q) ≡ true
+both p q e f = rw (e, f) refl
 
 -- ---- the fields
 
@@ -59,9 +62,6 @@ coff_in b a pe le e =
     let n2 = none_of (test P2 a (pe + 24) (not (is_magic magic))) rest n1.1 in
     let m = not_false (is_magic magic) n2.0 in
     (n1.0, m, taken (is_magic magic && not short) (optional_tests b a (headers_at b pe)) [] (both (is_magic magic) short m n1.0) n2.1)
-  where
-    both : (p q : Bool) → p ≡ true → q ≡ false → (p && not q) ≡ true
-    both p q e f = rw (e, f) refl
 
 optional_in : (b : List ℕ) (a : ℕ) (h : Headers) → h.pe + 64 ≤ length b → first_of (optional_tests b a h) ≡ None → (nat_lt (section_alignment b h) (file_alignment b h) ≡ false) × (is_file_alignment (file_alignment b h) ≡ true) × (first_of (directory_tests b a h) ≡ None)
 optional_in b a h le e =
@@ -121,11 +121,7 @@ cli_in b a h le whole e =
 pub directory_out : (b : List ℕ) (a : ℕ) (h : Headers) (s : Section) → h.directories + 120 ≤ length b → section_of b h (cli_rva b h) 72 ≡ Some s → first_of (section_tests b a (headers_size b h) (headers_size b h) h.sections h.count) ≡ None → first_of (directory_tests b a h) ≡ None
 directory_out b a h s le found rest =
     take_it (leb (h.directories + 120) (length b)) (test P4 a (h.directories + 112) (has_no_cli b h) ∷ section_tests b a (headers_size b h) (headers_size b h) h.sections h.count) (cuts b a h.pe size_fields ++ cuts b a h.directories directory_fields) (le-leb (h.directories + 120) (length b) le)
-    (none_both (test P4 a (h.directories + 112) (has_no_cli b h)) (section_tests b a (headers_size b h) (headers_size b h) h.sections h.count) (ap (λ (o : Option Section). is_whole b h && not (is_some o)) found ∙ no (is_whole b h)) rest)
-  where
-    no : (p : Bool) → (p && false) ≡ false
-    no true = refl
-    no false = refl
+    (none_both (test P4 a (h.directories + 112) (has_no_cli b h)) (section_tests b a (headers_size b h) (headers_size b h) h.sections h.count) (ap (λ (o : Option Section). is_whole b h && not (is_some o)) found ∙ and_right (is_whole b h) false refl) rest)
 
 optional_out : (b : List ℕ) (a : ℕ) (h : Headers) → h.pe + 64 ≤ length b → Accepts b h → first_of (directory_tests b a h) ≡ None → first_of (optional_tests b a h) ≡ None
 optional_out b a h le x rest =
@@ -144,9 +140,6 @@ coff_out b a le x rest =
     (none_both (test P2 a (pe + 20) short) (test P2 a (pe + 24) (not (is_magic magic)) ∷ deep) x.long
     (none_both (test P2 a (pe + 24) (not (is_magic magic))) deep (not_true (is_magic magic) x.magic)
     (take_it (is_magic magic && not short) (optional_tests b a (headers_at b pe)) [] (both (is_magic magic) short x.magic x.long) (optional_out b a (headers_of b) le x rest))))
-  where
-    both : (p q : Bool) → p ≡ true → q ≡ false → (p && not q) ≡ true
-    both p q e f = rw (e, f) refl
 
 pub all_out : (b : List ℕ) (a : ℕ) → pe_of b + 64 ≤ length b → Accepts b (headers_of b) → first_of (directory_tests b a (headers_of b)) ≡ None → first_of (header_tests b a) ≡ None
 all_out b a le x rest =

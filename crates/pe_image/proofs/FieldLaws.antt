@@ -1,7 +1,6 @@
 -- What the header fields of a grown image are.
-use Rattle.std.proofs.Common.{◌≡◌, ℕ, zero, suc, ◌+◌, ◌-◌, ◌*◌, ◌^◌, ◌<◌, ◌≤◌, Bool, true, false, cond, List, [], ◌∷◌, ◌++◌, length, refl, sym, ap, ◌∙◌, arith, append-nil}
+use Rattle.std.proofs.Common.{◌≡◌, ℕ, suc, ◌+◌, ◌-◌, ◌^◌, ◌<◌, ◌≤◌, Bool, cond, List, [], ◌∷◌, ◌++◌, length, refl, sym, ap, ◌∙◌, arith, append-nil}
 use Rattle.std.proofs.lemmas.List.{length-append}
-use Rattle.std.specs.Prelude.{nat_lt}
 use Rattle.std.specs.List.{concat}
 use Rattle.std.proofs.lemmas.Bool.{lt-ltb}
 use Rattle.cil_base.specs.Numbers.{num}
@@ -9,13 +8,13 @@ use Rattle.pe_image.specs.declared.headers.Headers.{Headers}
 use Rattle.pe_image.specs.declared.section.Section.{Section}
 use Rattle.pe_image.specs.declared.cli.CliHeader.{CliHeader}
 use Rattle.pe_image.specs.declared.growth.Growth.{Growth}
-use Rattle.pe_image.specs.Headers.{Fit, pe_of, is_plus, headers_at, headers_of, section_alignment, file_alignment, headers_size, cli_rva, table_end}
-use Rattle.pe_image.specs.Sections.{part, section_at, raw_end}
+use Rattle.pe_image.specs.Headers.{Fit, pe_of, is_plus, headers_at, headers_of, section_alignment, file_alignment, headers_size, cli_rva}
+use Rattle.pe_image.specs.Sections.{part, section_at}
 use Rattle.pe_image.specs.Cli.{cli_at}
-use Rattle.pe_image.specs.Written.{between, zeros, two_bytes, four_bytes, moved, moved_header, section_name, new_header}
-use Rattle.pe_image.proofs.GrownLaws.{len_between, len_two, len_four, inner}
+use Rattle.pe_image.specs.Written.{between, zeros, four_bytes, moved, moved_header, section_name, new_header}
+use Rattle.pe_image.proofs.GrownLaws.{len_between, len_four}
 use Rattle.pe_image.proofs.PieceLaws.{same_two, same_four, two_back, four_back, within, piece}
-use Rattle.pe_image.proofs.FrontLaws.{FrontIs, TableIs, CliIs, GrownIs}
+use Rattle.pe_image.proofs.FrontLaws.{FrontIs, CliIs}
 
 -- ---- before the section table
 

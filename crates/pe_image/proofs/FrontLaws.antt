@@ -1,15 +1,15 @@
 -- Where the header fields of a grown image come from.
-use Rattle.std.proofs.Common.{◌≡◌, ℕ, zero, suc, ◌+◌, ◌-◌, ◌*◌, ◌^◌, ◌<◌, ◌≤◌, max, List, [], ◌∷◌, ◌++◌, length, take, drop, refl, sym, ap, ◌∙◌, arith}
+use Rattle.std.proofs.Common.{◌≡◌, ℕ, zero, suc, ◌+◌, ◌-◌, ◌*◌, ◌<◌, ◌≤◌, max, List, [], ◌∷◌, ◌++◌, length, refl, ap, ◌∙◌, arith}
 use Rattle.std.specs.List.{concat}
-use Rattle.std.proofs.lemmas.List.{length-append, length-replicate, take_all}
+use Rattle.std.proofs.lemmas.List.{length-append, take_all}
 use Rattle.pe_image.specs.declared.headers.Headers.{Headers}
 use Rattle.pe_image.specs.declared.cli.CliHeader.{CliHeader}
 use Rattle.pe_image.specs.declared.growth.Growth.{Growth}
 use Rattle.pe_image.specs.Headers.{Fit, headers_size, table_end}
 use Rattle.pe_image.specs.Sections.{part, section_at}
-use Rattle.pe_image.specs.Written.{between, zeros, two_bytes, four_bytes, front, moved, moved_header, moved_headers, section_name, new_header, grown_front, kept, grown_rest, grown}
-use Rattle.pe_image.proofs.GrownLaws.{Sizes, skip, stay, inner, in_first, len_between, len_two, len_four, front_length, moved_length, header_length, front_grown, kept_length}
-use Rattle.pe_image.proofs.PieceLaws.{within, piece, in_one, in_two, in_three}
+use Rattle.pe_image.specs.Written.{between, zeros, two_bytes, four_bytes, front, moved, moved_header, moved_headers, new_header, grown_front, kept, grown_rest, grown}
+use Rattle.pe_image.proofs.GrownLaws.{Sizes, skip, stay, in_first, len_between, len_two, len_four, front_length, moved_length, header_length, front_grown, kept_length}
+use Rattle.pe_image.proofs.PieceLaws.{piece, in_one, in_two, in_three}
 
 -- ---- before the section table
 
@@ -55,17 +55,17 @@ front_is b h cli_at cli section g fit whole =
     let same5 : part b (pe + 20) (pe + 80 - (pe + 20)) ≡ part b (pe + 20) 60 = ap (part b (pe + 20)) (let t : pe + 80 - (pe + 20) ≡ 60 = omega arith in t) in
     record {
       head = in_front b h cli_at cli section g fit whole 0 (pe + 6) (omega arith)
-      ∙ piece [] p1 (p2 ∷ p3 ∷ p4 ∷ p5 ∷ p6 ∷ p7 ∷ p8 ∷ p9 ∷ p4 ∷ p11 ∷ p4 ∷ p13 ∷ []) 0 (pe + 6) refl l1
-      ∙ same1;
+          ∙ piece [] p1 (p2 ∷ p3 ∷ p4 ∷ p5 ∷ p6 ∷ p7 ∷ p8 ∷ p9 ∷ p4 ∷ p11 ∷ p4 ∷ p13 ∷ []) 0 (pe + 6) refl l1
+          ∙ same1;
       count = in_front b h cli_at cli section g fit whole (pe + 6) 2 (omega arith)
-      ∙ piece (p1 ∷ []) p2 (p3 ∷ p4 ∷ p5 ∷ p6 ∷ p7 ∷ p8 ∷ p9 ∷ p4 ∷ p11 ∷ p4 ∷ p13 ∷ []) (pe + 6) 2 (simp (length-append, l1) (omega arith)) l2;
+          ∙ piece (p1 ∷ []) p2 (p3 ∷ p4 ∷ p5 ∷ p6 ∷ p7 ∷ p8 ∷ p9 ∷ p4 ∷ p11 ∷ p4 ∷ p13 ∷ []) (pe + 6) 2 (simp (length-append, l1) (omega arith)) l2;
       middle = in_front b h cli_at cli section g fit whole (pe + 20) 60 (omega arith)
-      ∙ piece (p1 ∷ p2 ∷ p3 ∷ p4 ∷ []) p5 (p6 ∷ p7 ∷ p8 ∷ p9 ∷ p4 ∷ p11 ∷ p4 ∷ p13 ∷ []) (pe + 20) 60 (simp (length-append, l1, l2, l3) (omega arith)) l5
-      ∙ same5;
+          ∙ piece (p1 ∷ p2 ∷ p3 ∷ p4 ∷ []) p5 (p6 ∷ p7 ∷ p8 ∷ p9 ∷ p4 ∷ p11 ∷ p4 ∷ p13 ∷ []) (pe + 20) 60 (simp (length-append, l1, l2, l3) (omega arith)) l5
+          ∙ same5;
       size = in_front b h cli_at cli section g fit whole (pe + 84) 4 (omega arith)
-      ∙ piece (p1 ∷ p2 ∷ p3 ∷ p4 ∷ p5 ∷ p6 ∷ []) p7 (p8 ∷ p9 ∷ p4 ∷ p11 ∷ p4 ∷ p13 ∷ []) (pe + 84) 4 (simp (length-append, l1, l2, l3, l5, l6) (omega arith)) l7;
+          ∙ piece (p1 ∷ p2 ∷ p3 ∷ p4 ∷ p5 ∷ p6 ∷ []) p7 (p8 ∷ p9 ∷ p4 ∷ p11 ∷ p4 ∷ p13 ∷ []) (pe + 84) 4 (simp (length-append, l1, l2, l3, l5, l6) (omega arith)) l7;
       last = in_front b h cli_at cli section g fit whole (d + 56) (h.sections - (d + 56)) (omega arith)
-      ∙ piece (p1 ∷ p2 ∷ p3 ∷ p4 ∷ p5 ∷ p6 ∷ p7 ∷ p8 ∷ p9 ∷ p4 ∷ p11 ∷ p4 ∷ []) p13 [] (d + 56) (h.sections - (d + 56)) (simp (length-append, l1, l2, l3, l5, l6, l7, l9, l11) (omega arith)) l13;
+          ∙ piece (p1 ∷ p2 ∷ p3 ∷ p4 ∷ p5 ∷ p6 ∷ p7 ∷ p8 ∷ p9 ∷ p4 ∷ p11 ∷ p4 ∷ []) p13 [] (d + 56) (h.sections - (d + 56)) (simp (length-append, l1, l2, l3, l5, l6, l7, l9, l11) (omega arith)) l13;
     }
 
 -- ---- the section table
@@ -161,14 +161,14 @@ cli_is b h cli_at cli section g s =
     let same5 : part b (cli_at + 20) (cli_at + 32 - (cli_at + 20)) ≡ part b (cli_at + 20) 12 = ap (part b (cli_at + 20)) (let t : cli_at + 32 - (cli_at + 20) ≡ 12 = omega arith in t) in
     record {
       rva = in_kept b h cli_at cli section g s (cli_at + g.by + 8) 8 4 refl (omega arith)
-      ∙ piece (p1 ∷ []) p2 (p3 ∷ p4 ∷ p5 ∷ p6 ∷ p7 ∷ []) (cli_at - size + 8) 4 (simp (length-append, l1) (omega arith)) l2;
+          ∙ piece (p1 ∷ []) p2 (p3 ∷ p4 ∷ p5 ∷ p6 ∷ p7 ∷ []) (cli_at - size + 8) 4 (simp (length-append, l1) (omega arith)) l2;
       len = in_kept b h cli_at cli section g s (cli_at + g.by + 12) 12 4 refl (omega arith)
-      ∙ piece (p1 ∷ p2 ∷ []) p3 (p4 ∷ p5 ∷ p6 ∷ p7 ∷ []) (cli_at - size + 12) 4 (simp (length-append, l1, l2) (omega arith)) l3;
+          ∙ piece (p1 ∷ p2 ∷ []) p3 (p4 ∷ p5 ∷ p6 ∷ p7 ∷ []) (cli_at - size + 12) 4 (simp (length-append, l1, l2) (omega arith)) l3;
       flags = in_kept b h cli_at cli section g s (cli_at + g.by + 16) 16 4 refl (omega arith)
-      ∙ piece (p1 ∷ p2 ∷ p3 ∷ []) p4 (p5 ∷ p6 ∷ p7 ∷ []) (cli_at - size + 16) 4 (simp (length-append, l1, l2, l3) (omega arith)) l4;
+          ∙ piece (p1 ∷ p2 ∷ p3 ∷ []) p4 (p5 ∷ p6 ∷ p7 ∷ []) (cli_at - size + 16) 4 (simp (length-append, l1, l2, l3) (omega arith)) l4;
       entry = in_kept b h cli_at cli section g s (cli_at + g.by + 20) 20 12 refl (omega arith)
-      ∙ piece (p1 ∷ p2 ∷ p3 ∷ p4 ∷ []) p5 (p6 ∷ p7 ∷ []) (cli_at - size + 20) 12 (simp (length-append, l1, l2, l3, l4) (omega arith)) l5
-      ∙ same5;
+          ∙ piece (p1 ∷ p2 ∷ p3 ∷ p4 ∷ []) p5 (p6 ∷ p7 ∷ []) (cli_at - size + 20) 12 (simp (length-append, l1, l2, l3, l4) (omega arith)) l5
+          ∙ same5;
     }
 
 -- ---- all of it

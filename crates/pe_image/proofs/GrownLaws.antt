@@ -1,21 +1,15 @@
 -- The parts of a grown image: how long they are, and where the old bytes and the new section stand in it.
-use Rattle.std.proofs.Common.{◌≡◌, ℕ, zero, suc, ◌+◌, ◌-◌, ◌*◌, ◌%◌, ◌^◌, ◌<◌, ◌≤◌, max, min, Bool, true, false, cond, leb, ltb, not, ◌||◌, ◌&&◌, List, [], ◌∷◌, ◌++◌, length, take, drop, Option, Some, None, refl, sym, ap, ◌∙◌, inl, inr, ◌⊎◌, arith, append_assoc, append-nil}
-use Rattle.std.specs.Prelude.{nat_lt, find, Result, Ok, Err, replicate}
+use Rattle.std.proofs.Common.{◌≡◌, ℕ, zero, suc, ◌+◌, ◌-◌, ◌*◌, ◌<◌, ◌≤◌, max, Bool, true, false, leb, List, [], ◌++◌, length, take, drop, refl, sym, ap, ◌∙◌, inl, inr, ◌⊎◌, arith, append_assoc, append-nil}
 use Rattle.std.specs.List.{concat}
-use Rattle.std.specs.Int.{next_multiple_of}
 use Rattle.std.proofs.Math.Seq.{drop-append-add}
-use Rattle.std.proofs.lemmas.Bool.{leb-true, leb-false, ltb-true, ltb-false}
-use Rattle.std.proofs.lemmas.Option.{same_Some}
+use Rattle.std.proofs.lemmas.Bool.{leb-true, leb-false}
 use Rattle.std.proofs.lemmas.List.{length-append, length-drop, length-replicate, length-take-le, take_all, take-append-le, drop-append-le, take-take, drop-drop, drop-take}
-use Rattle.cil_base.specs.declared.refusal.Refusal.{Refusal}
-use Rattle.cil_base.specs.Refusals.{first_of}
 use Rattle.pe_image.specs.declared.headers.Headers.{Headers}
-use Rattle.pe_image.specs.declared.section.Section.{Section}
 use Rattle.pe_image.specs.declared.cli.CliHeader.{CliHeader}
 use Rattle.pe_image.specs.declared.growth.Growth.{Growth}
 use Rattle.pe_image.specs.Headers.{Fit, headers_size, table_end}
 use Rattle.pe_image.specs.Sections.{part, section_at}
-use Rattle.pe_image.specs.Written.{between, zeros, two_bytes, four_bytes, front, moved, moved_header, moved_headers, new_header, grown_front, kept, grown_rest, grown}
+use Rattle.pe_image.specs.Written.{between, zeros, two_bytes, four_bytes, front, moved, moved_headers, new_header, grown_front, kept, grown_rest, grown}
 
 -- ---- parts of lists
 
@@ -58,15 +52,13 @@ front_length bytes h g fit whole =
     let l1 : length (between bytes 0 (h.pe + 6)) ≡ h.pe + 6 = len_between bytes 0 (h.pe + 6) (omega arith) (omega arith) ∙ omega arith in
     let l2 : length (two_bytes (h.count + 1)) ≡ 2 = len_two (h.count + 1) in
     let l3 : length (between bytes (h.pe + 8) (h.pe + 12)) ≡ 4 = len_between bytes (h.pe + 8) (h.pe + 12) (omega arith) (omega arith) ∙ omega arith in
-    let l4 : length (zeros 8) ≡ 8 = length-replicate {A = ℕ} 8 0 in
     let l5 : length (between bytes (h.pe + 20) (h.pe + 80)) ≡ 60 = len_between bytes (h.pe + 20) (h.pe + 80) (omega arith) (omega arith) ∙ omega arith in
     let l6 : length (four_bytes g.image_size) ≡ 4 = len_four g.image_size in
     let l7 : length (four_bytes g.headers_size) ≡ 4 = len_four g.headers_size in
-    let l8 : length (zeros 4) ≡ 4 = length-replicate {A = ℕ} 4 0 in
     let l9 : length (between bytes (h.pe + 92) (d + 32)) ≡ d + 32 - (h.pe + 92) = len_between bytes (h.pe + 92) (d + 32) (omega arith) (omega arith) in
     let l11 : length (between bytes (d + 40) (d + 48)) ≡ 8 = len_between bytes (d + 40) (d + 48) (omega arith) (omega arith) ∙ omega arith in
     let l13 : length (between bytes (d + 56) h.sections) ≡ h.sections - (d + 56) = len_between bytes (d + 56) h.sections (omega arith) (omega arith) in
-    simp (length-append, l1, l2, l3, l4, l5, l6, l7, l8, l9, l11, l13) (omega arith)
+    simp (length-append, l1, l2, l3, l5, l6, l7, l9, l11, l13) (omega arith)
 
 pub moved_length : (bytes : List ℕ) (by at n : ℕ) → at + 40 * n ≤ length bytes → length (moved_headers bytes by at n) ≡ 40 * n
 moved_length bytes by at zero le = refl
@@ -83,9 +75,8 @@ header_length len g =
     let l2 : length (four_bytes g.address) ≡ 4 = len_four g.address in
     let l3 : length (four_bytes g.raw_size) ≡ 4 = len_four g.raw_size in
     let l4 : length (four_bytes g.raw_at) ≡ 4 = len_four g.raw_at in
-    let l5 : length (zeros 12) ≡ 12 = length-replicate {A = ℕ} 12 0 in
     let l6 : length (four_bytes 0x60000020) ≡ 4 = len_four 0x60000020 in
-    simp (length-append, l1, l2, l3, l4, l5, l6) (omega arith)
+    simp (length-append, l1, l2, l3, l4, l6) (omega arith)
 
 -- what the sizes are to each other
 pub record Sizes (bytes : List ℕ) (h : Headers) (cli_at : ℕ) (len : ℕ) (g : Growth) : Type 0 where
@@ -98,7 +89,7 @@ pub record Sizes (bytes : List ℕ) (h : Headers) (cli_at : ℕ) (len : ℕ) (g 
   pub raw_at : length bytes + g.by ≤ g.raw_at
   pub raw_size : len ≤ g.raw_size
 
-pub by_test : (b : Bool) (m n : ℕ) → leb m n ≡ b → (m ≤ n) ⊎ (n < m)
+by_test : (b : Bool) (m n : ℕ) → leb m n ≡ b → (m ≤ n) ⊎ (n < m)
 by_test true m n e = inl (leb-true m n e)
 by_test false m n e = inr (leb-false m n e)
 
@@ -199,14 +190,6 @@ in_first a b c d at n le =
     ∙ stay (a ++ b) c at n (omega (arith, length-append a b))
     ∙ stay a b at n le
 
-in_third : (a b c d : List ℕ) (at : ℕ) → at ≡ length (a ++ b) → part (a ++ b ++ c ++ d) at (length c) ≡ c
-in_third a b c d at e =
-    let zero_off : at - length (a ++ b) ≡ 0 = omega arith in
-    stay (a ++ b ++ c) d at (length c) (omega (arith, length-append (a ++ b) c))
-    ∙ skip (a ++ b) c at (length c) (omega arith)
-    ∙ ap (λ (k : ℕ). part c k (length c)) zero_off
-    ∙ take_all (length c) c (omega arith)
-
 -- The bytes behind the old headers, but for those of the CLI header, stand as much further on as the headers grew.
 pub kept_bytes : (bytes : List ℕ) (h : Headers) (cli_at : ℕ) (cli : CliHeader) (section : List ℕ) (g : Growth) → Sizes bytes h cli_at (length section) g → (at n : ℕ) → headers_size bytes h ≤ at → at + n ≤ length bytes → (at + n ≤ cli_at + 8) ⊎ (cli_at + 40 ≤ at) → part (grown bytes h cli_at cli section g) (at + g.by) n ≡ part bytes at n
 kept_bytes bytes h cli_at cli section g s at n low high apart =
@@ -225,22 +208,43 @@ kept_bytes bytes h cli_at cli section g s at n low high apart =
       | inr after ↦ after_cli bytes size cli_at cli at n behind here low high after
     ]
 
--- The new section stands whole at its place.
-pub placed : (bytes : List ℕ) (h : Headers) (cli_at : ℕ) (cli : CliHeader) (section : List ℕ) (g : Growth) → Sizes bytes h cli_at (length section) g → part (grown bytes h cli_at cli section g) g.raw_at (length section) ≡ section
-placed bytes h cli_at cli section g s =
+-- the raw bytes of the new section: its own, and zeros
+pub new_raw : (bytes : List ℕ) (h : Headers) (cli_at : ℕ) (cli : CliHeader) (section : List ℕ) (g : Growth) → Sizes bytes h cli_at (length section) g → part (grown bytes h cli_at cli section g) g.raw_at g.raw_size ≡ section ++ zeros (g.raw_size - length section)
+new_raw bytes h cli_at cli section g s =
     let size = headers_size bytes h in
     let behind = s.behind in
     let here = s.here in
     let grows = s.size in
     let beyond = s.raw_at in
+    let more = s.raw_size in
     let k = concat (kept bytes size cli_at cli) in
     let z = zeros (g.raw_at - (length bytes + g.by)) in
+    let y = zeros (g.raw_size - length section) in
     let f = front_grown bytes h cli_at (length section) g s in
     let lk : length k ≡ length bytes - size = kept_length bytes size cli_at cli behind here in
     let lz : length z ≡ g.raw_at - (length bytes + g.by) = length-replicate {A = ℕ} (g.raw_at - (length bytes + g.by)) 0 in
-    let seam : g.raw_at - length (grown_front bytes h g (length section)) ≡ length (k ++ z) = (let t : g.raw_at - length (grown_front bytes h g (length section)) ≡ length k + length z = omega arith in t ∙ sym (length-append k z)) in
-    skip (grown_front bytes h g (length section)) (grown_rest bytes h cli_at cli section g) g.raw_at (length section) (omega arith)
-    ∙ in_third k z section (zeros (g.raw_size - length section)) (g.raw_at - length (grown_front bytes h g (length section))) seam
+    let ly : length y ≡ g.raw_size - length section = length-replicate {A = ℕ} (g.raw_size - length section) 0 in
+    let lkz = length-append k z in
+    let lsy = length-append section y in
+    let off : g.raw_at - length (grown_front bytes h g (length section)) ≡ length (k ++ z) = omega arith in
+    let none : length (k ++ z) - length (k ++ z) ≡ 0 = omega arith in
+    skip (grown_front bytes h g (length section)) (grown_rest bytes h cli_at cli section g) g.raw_at g.raw_size (omega arith)
+    ∙ ap (λ (i : ℕ). part (grown_rest bytes h cli_at cli section g) i g.raw_size) off
+    ∙ ap (λ (x : List ℕ). part x (length (k ++ z)) g.raw_size) (append_assoc (k ++ z) section y)
+    ∙ skip (k ++ z) (section ++ y) (length (k ++ z)) g.raw_size (omega arith)
+    ∙ ap (λ (i : ℕ). part (section ++ y) i g.raw_size) none
+    ∙ take_all g.raw_size (section ++ y) (omega arith)
+
+-- The new section stands whole at its place.
+pub placed : (bytes : List ℕ) (h : Headers) (cli_at : ℕ) (cli : CliHeader) (section : List ℕ) (g : Growth) → Sizes bytes h cli_at (length section) g → part (grown bytes h cli_at cli section g) g.raw_at (length section) ≡ section
+placed bytes h cli_at cli section g s =
+    let more = s.raw_size in
+    let here : g.raw_at ≡ g.raw_at + 0 = omega arith in
+    ap (λ (k : ℕ). part (grown bytes h cli_at cli section g) k (length section)) here
+    ∙ sym (inner (grown bytes h cli_at cli section g) g.raw_at g.raw_size 0 (length section) (omega arith))
+    ∙ ap (λ (x : List ℕ). part x 0 (length section)) (new_raw bytes h cli_at cli section g s)
+    ∙ stay section (zeros (g.raw_size - length section)) 0 (length section) (omega arith)
+    ∙ take_all (length section) section (omega arith)
 
 pub grown_length : (bytes : List ℕ) (h : Headers) (cli_at : ℕ) (cli : CliHeader) (section : List ℕ) (g : Growth) → Sizes bytes h cli_at (length section) g → length (grown bytes h cli_at cli section g) ≡ g.raw_at + g.raw_size
 grown_length bytes h cli_at cli section g s =

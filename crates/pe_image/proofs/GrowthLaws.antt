@@ -1,10 +1,9 @@
 -- Where a new section comes to stand.
-use Rattle.std.proofs.Common.{◌≡◌, ℕ, zero, suc, ◌+◌, ◌-◌, ◌*◌, ◌/◌, ◌%◌, ◌^◌, ◌<◌, ◌≤◌, max, min, Bool, true, false, cond, leb, ltb, not, ◌||◌, ◌&&◌, List, [], ◌∷◌, ◌++◌, length, Option, Some, None, refl, sym, ap, ◌∙◌, inl, inr, ◌⊎◌, arith}
+use Rattle.std.proofs.Common.{◌≡◌, ℕ, zero, suc, ◌+◌, ◌-◌, ◌*◌, ◌/◌, ◌%◌, ◌^◌, ◌<◌, ◌≤◌, max, Bool, true, false, cond, leb, ltb, ◌&&◌, List, refl, ap, ◌∙◌, inl, inr, ◌⊎◌, arith}
 use Rattle.std.specs.Int.{next_multiple_of}
 use Rattle.std.proofs.Math.Nat.{div-mul-le_self, div-add-mod, mod-lt, mod_self, mod-eq_of_lt, mul-le-mul_left}
 use Rattle.std.proofs.lemmas.Nat.{le-div}
 use Rattle.std.proofs.lemmas.Bool.{leb-true, ltb-true, ltb-false}
-use Rattle.pe_image.specs.declared.section.Section.{Section}
 use Rattle.pe_image.specs.Sections.{section_at, sections_at, sections_of, address_end}
 use Rattle.std.specs.Prelude.{Result, Ok, Err}
 use Rattle.cil_base.specs.declared.refusal.Refusal.{Refusal}

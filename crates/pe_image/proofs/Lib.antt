@@ -9,3 +9,6 @@ pub mod FrontLaws
 pub mod FieldLaws
 pub mod TableLaws
 pub mod AcceptLaws
+pub mod SettingLaws
+pub mod RvaLaws
+pub mod ReadBackLaws

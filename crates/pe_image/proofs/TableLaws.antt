@@ -1,15 +1,14 @@
 -- The section table of a grown image: what is found in it, and that its sections rise apart.
-use Rattle.std.proofs.Common.{◌≡◌, ℕ, zero, suc, ◌+◌, ◌-◌, ◌*◌, ◌<◌, ◌≤◌, max, Bool, true, false, cond, not, leb, ltb, ◌||◌, ◌&&◌, List, [], ◌∷◌, length, Option, Some, None, refl, sym, ap, subst, ◌∙◌, inl, inr, ◌⊎◌, arith}
+use Rattle.std.proofs.Common.{◌≡◌, ℕ, zero, suc, ◌+◌, ◌*◌, ◌<◌, ◌≤◌, Bool, true, false, cond, not, leb, ltb, ◌||◌, ◌&&◌, List, ◌∷◌, length, Some, None, refl, sym, ap, subst, ◌∙◌, inl, inr, ◌⊎◌, arith}
 use Rattle.std.specs.Prelude.{find, nat_lt}
-use Rattle.std.proofs.lemmas.Bool.{leb-true, le-leb, lt-ltb, le-ltb, ltb-true, ltb-false}
+use Rattle.std.proofs.lemmas.Bool.{le-leb, lt-ltb, le-ltb, ltb-true, ltb-false}
 use Rattle.std.proofs.lemmas.Option.{same_Some}
-use Rattle.cil_base.specs.declared.rule.Rule.TheVariants.{P3}
-use Rattle.cil_base.specs.Refusals.{Test, first_of}
+use Rattle.cil_base.specs.Refusals.{first_of}
 use Rattle.pe_image.specs.declared.section.Section.{Section}
 use Rattle.pe_image.specs.Sections.{section_at, sections_at, address_end, raw_end, holds}
 use Rattle.pe_image.specs.Growth.{addresses_end}
-use Rattle.pe_image.specs.Rules.{test, section_tests, is_misplaced}
-use Rattle.pe_image.proofs.SectionLaws.{none_of, none_after, misplaced_not, floor_not, floors, behind_floor}
+use Rattle.pe_image.specs.Rules.{section_tests, is_misplaced}
+use Rattle.pe_image.proofs.SectionLaws.{none_after, misplaced_not, floor_not, floors, behind_floor}
 use Rattle.pe_image.proofs.FieldLaws.{IsMoved}
 
 -- So many section headers from a place on are the old ones, moved, and a new one follows.

@@ -51,7 +51,7 @@ grown_gives bytes a h at cli section out e =
     go true true e f = absurd cc
     go false q e f = absurd cc
 
-next_up : (x y : ℕ) → x ≤ next_multiple_of x y
+pub next_up : (x y : ℕ) → x ≤ next_multiple_of x y
 next_up x y = omega arith
 
 pub sizes : (bytes : List ℕ) (a : ℕ) (h : Headers) (cli_at len : ℕ) → InOrder bytes a h → headers_size bytes h ≤ cli_at → cli_at + 72 ≤ length bytes → Sizes bytes h cli_at len (growth_of bytes h len)

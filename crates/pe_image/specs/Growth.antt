@@ -1,5 +1,5 @@
 -- How an image grows by one section (ECMA-335, II.25.2 and II.25.3): where it comes to stand.
-use Rattle.std.specs.Prelude.{◌≡◌, ℕ, ◌+◌, ◌-◌, ◌*◌, ◌^◌, Bool, ◌&&◌, nat_lt, nat_le, max, List, [], ◌∷◌, length, Option, Some, None, Result, Ok, Err, if◌then◌else◌}
+use Rattle.std.specs.Prelude.{ℕ, ◌+◌, ◌-◌, ◌^◌, Bool, ◌&&◌, nat_lt, nat_le, max, List, [], ◌∷◌, length, Result, Ok, Err, if◌then◌else◌}
 use Rattle.std.specs.Int.{next_multiple_of}
 use Rattle.cil_base.specs.declared.rule.Rule.TheVariants.{P5, L6}
 use Rattle.cil_base.specs.declared.refusal.Refusal.{Refusal}

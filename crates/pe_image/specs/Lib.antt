@@ -5,3 +5,4 @@ pub mod Rules
 pub mod Images
 pub mod Growth
 pub mod Written
+pub mod ReadBack

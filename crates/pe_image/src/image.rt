@@ -6,6 +6,7 @@ ghost use Rattle.pe_image.specs.Sections.{part, at_rva, tail_at};
 ghost use Rattle.pe_image.specs.Cli.{cli_of, metadata_of};
 ghost use Rattle.pe_image.specs.Rules.{Broken};
 ghost use Rattle.pe_image.specs.Growth.{room_of};
+ghost use Rattle.pe_image.specs.ReadBack.{Grows};
 
 use crate::cli::{CliHeader, read_cli};
 use crate::growth::room;
@@ -132,10 +133,13 @@ pub fn write_image(
     metadata_rva: u32,
     metadata_len: u32,
 ) -> Result<Bytes, Fault>
-    requires { length section.now < 2 ^ 32 }
+    requires short { length section.now < 2 ^ 32 }
+    // where there is room for the section, the metadata lies in it
+    requires metadata { IfOk (room_of img.now.bytes img.now.assembly) (λ room. (room ≤ metadata_rva) × (metadata_rva + metadata_len ≤ room + length section.now)) }
     ensures ok { IfOk result (λ out. grown_of img.now.bytes img.now.assembly section.now metadata_rva metadata_len ≡ Ok out) }
     ensures short { IfOk result (λ out. length out ≤ 2 ^ 27) }
     ensures kept { IfOk result (λ out. KeepsBytes img.now.bytes out) }
+    ensures grows { IfOk result (Grows img.now.bytes img.now.assembly section.now metadata_rva metadata_len) }
     ensures placed { IfOk result (λ out. part out (new_place img.now.bytes (length section.now)) (length section.now) ≡ section.now) }
     ensures refused { OnRefused result (λ r. grown_of img.now.bytes img.now.assembly section.now metadata_rva metadata_len ≡ Err r) }
 {

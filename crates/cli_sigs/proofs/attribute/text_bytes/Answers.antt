@@ -1,7 +1,6 @@
-use Rattle.std.proofs.Common.{◌≡◌, ◌++◌, ◌∷◌, [], ap, sym, ◌∙◌}
 use Rattle.cli_sigs.specs.Read.{many, byte_where}
 use Rattle.cli_sigs.specs.Reading.{is_byte}
-use Rattle.cli_sigs.proofs.Loops.{goes_on, stops, ends}
+use Rattle.cli_sigs.proofs.Loops.{goes_on, ends}
 use Rattle.cli_sigs.proofs.attribute.text_bytes.Goals as goal
 
 pub loop-preserved : goal.loop-preserved

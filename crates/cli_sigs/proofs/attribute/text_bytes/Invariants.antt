@@ -1,4 +1,4 @@
-use Rattle.std.proofs.Common.{◌≡◌, ℕ, ◌+◌, ◌-◌}
+use Rattle.std.proofs.Common.{◌≡◌, ◌-◌}
 use Rattle.cli_sigs.specs.Read.{many, with_front, byte_where}
 use Rattle.cli_sigs.specs.Reading.{is_byte}
 use Rattle.cli_sigs.proofs.attribute.text_bytes.Given as goal

@@ -1,9 +1,10 @@
 use Rattle.cil_base.specs.declared.rule.Rule.TheVariants.{S1}
-use Rattle.cli_sigs.specs.declared.elements.Slot.TheVariants.{Plain, Local}
-use Rattle.cli_sigs.specs.declared.elements.MethodKind.TheVariants.{Method, Property}
+use Rattle.cli_sigs.specs.declared.elements.Slot.TheVariants.{Plain}
 use Rattle.cli_sigs.specs.Grammar.{IsFieldSig}
-use Rattle.cli_sigs.specs.Reading.{type_at, method_at, field_at, list_at}
-use Rattle.cli_sigs.proofs.KindLaws.{reads-methods, reads-spec, reads-field, reads-list}
+use Rattle.cli_sigs.specs.Valid.{IsValidTypeSpec}
+use Rattle.cli_sigs.specs.Reading.{field_at}
+use Rattle.cli_sigs.proofs.KindLaws.{reads-field}
+use Rattle.cli_sigs.proofs.ValidLaws.{read_valid, type_valid}
 use Rattle.cli_sigs.proofs.BlobLaws.{reads_within, answers_found, answers_only, answers_refused}
 use Rattle.cli_sigs.proofs.blobs.read_field_sig.Goals as goal
 
@@ -18,3 +19,8 @@ returns-clause-only c = answers_only IsFieldSig (field_at 999) reads-field (λ x
 
 pub returns-clause-refused : goal.returns-clause-refused
 returns-clause-refused c = answers_refused IsFieldSig (field_at 999) reads-field (λ x. (x.0, x.1.now)) c.args.blob.now S1 c.args.place c.field_of-read.result c.whole.result c.field_of-read.ensures c.whole.ensures
+
+pub returns-clause-valid : goal.returns-clause-valid
+returns-clause-valid c =
+    read_valid IsFieldSig IsValidTypeSpec c.args.blob.now c.whole.result (λ t g. type_valid 1000 Plain g.0 t g.2)
+    (answers_found IsFieldSig (field_at 999) reads-field (λ x. (x.0, x.1.now)) c.args.blob.now S1 c.args.place c.field_of-read.result c.whole.result c.field_of-read.ensures c.whole.ensures)

@@ -1,9 +1,10 @@
 use Rattle.cil_base.specs.declared.rule.Rule.TheVariants.{S1}
-use Rattle.cli_sigs.specs.declared.elements.Slot.TheVariants.{Plain, Local}
-use Rattle.cli_sigs.specs.declared.elements.MethodKind.TheVariants.{Method, Property}
-use Rattle.cli_sigs.specs.Grammar.{IsLocals}
-use Rattle.cli_sigs.specs.Reading.{type_at, method_at, field_at, list_at}
-use Rattle.cli_sigs.proofs.KindLaws.{reads-methods, reads-spec, reads-field, reads-list}
+use Rattle.cli_sigs.specs.declared.elements.Slot.TheVariants.{Local}
+use Rattle.cli_sigs.specs.Grammar.{IsType, IsLocals}
+use Rattle.cli_sigs.specs.Valid.{IsValidType, AreValidLocals}
+use Rattle.cli_sigs.specs.Reading.{list_at}
+use Rattle.cli_sigs.proofs.KindLaws.{reads-list}
+use Rattle.cli_sigs.proofs.ValidLaws.{read_valid, counted_valid, type_valid}
 use Rattle.cli_sigs.proofs.BlobLaws.{reads_within, answers_found, answers_only, answers_refused}
 use Rattle.cli_sigs.proofs.blobs.read_locals.Goals as goal
 
@@ -18,3 +19,8 @@ returns-clause-only c = answers_only IsLocals (list_at 7 999 Local) (reads-list 
 
 pub returns-clause-refused : goal.returns-clause-refused
 returns-clause-refused c = answers_refused IsLocals (list_at 7 999 Local) (reads-list 7 Local) (λ x. (x.0, x.1.now)) c.args.blob.now S1 c.args.place c.list_of-read.result c.whole.result c.list_of-read.ensures c.whole.ensures
+
+pub returns-clause-valid : goal.returns-clause-valid
+returns-clause-valid c =
+    read_valid IsLocals AreValidLocals c.args.blob.now c.whole.result (λ ts g. counted_valid (IsType 1000 Local) (IsValidType 1000 Local) (type_valid 1000 Local) g.0 ts g.2)
+    (answers_found IsLocals (list_at 7 999 Local) (reads-list 7 Local) (λ x. (x.0, x.1.now)) c.args.blob.now S1 c.args.place c.list_of-read.result c.whole.result c.list_of-read.ensures c.whole.ensures)

@@ -1,9 +1,8 @@
 use Rattle.cil_base.specs.declared.rule.Rule.TheVariants.{S1}
-use Rattle.cli_sigs.specs.declared.elements.Slot.TheVariants.{Plain, Local}
-use Rattle.cli_sigs.specs.declared.elements.MethodKind.TheVariants.{Method, Property}
+use Rattle.cli_sigs.specs.declared.elements.MethodKind.TheVariants.{Property}
 use Rattle.cli_sigs.specs.Grammar.{IsPropertySig}
-use Rattle.cli_sigs.specs.Reading.{type_at, method_at, field_at, list_at}
-use Rattle.cli_sigs.proofs.KindLaws.{reads-methods, reads-spec, reads-field, reads-list}
+use Rattle.cli_sigs.specs.Reading.{type_at, method_at}
+use Rattle.cli_sigs.proofs.KindLaws.{reads-methods}
 use Rattle.cli_sigs.proofs.BlobLaws.{reads_within, answers_found, answers_only, answers_refused}
 use Rattle.cli_sigs.proofs.blobs.read_property_sig.Goals as goal
 

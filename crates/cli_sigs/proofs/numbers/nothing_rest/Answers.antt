@@ -1,4 +1,3 @@
-use Rattle.std.proofs.Common.{rules}
 use Rattle.cli_sigs.specs.Reading.{nothing_after}
 use Rattle.cli_sigs.proofs.numbers.nothing_rest.Goals as goal
 

@@ -1,7 +1,6 @@
-use Rattle.std.proofs.Common.{◌≡◌, ◌++◌, ◌∷◌, [], ap, sym, ◌∙◌}
 use Rattle.cli_sigs.specs.Read.{many}
 use Rattle.cli_sigs.specs.Reading.{packed}
-use Rattle.cli_sigs.proofs.Loops.{goes_on, stops, ends}
+use Rattle.cli_sigs.proofs.Loops.{goes_on, ends}
 use Rattle.cli_sigs.proofs.numbers.packed_items.Goals as goal
 
 pub loop-preserved : goal.loop-preserved

@@ -1,9 +1,9 @@
-use Rattle.std.proofs.Common.{◌≡◌, ◌++◌, ◌∷◌, [], ap, sym, ◌∙◌, rules, w32, arith}
+use Rattle.std.proofs.Common.{w32, arith}
 use mir.Val.{SFits}
 use Rattle.std.proofs.lemmas.Int.{to_z-of_z, ints}
 use Rattle.cli_sigs.specs.Read.{many}
 use Rattle.cli_sigs.specs.Reading.{signed}
-use Rattle.cli_sigs.proofs.Loops.{goes_on, stops, ends}
+use Rattle.cli_sigs.proofs.Loops.{goes_on, ends}
 use Rattle.cli_sigs.proofs.numbers.signed_items.Goals as goal
 
 pub loop-preserved : goal.loop-preserved

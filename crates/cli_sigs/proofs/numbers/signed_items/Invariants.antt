@@ -1,4 +1,4 @@
-use Rattle.std.proofs.Common.{◌≡◌, ℕ, ◌+◌, ◌-◌}
+use Rattle.std.proofs.Common.{◌≡◌, ◌-◌}
 use Rattle.cli_sigs.specs.Read.{many, with_front}
 use Rattle.cli_sigs.specs.Reading.{signed}
 use Rattle.cli_sigs.proofs.numbers.signed_items.Given as goal

@@ -1,4 +1,4 @@
-use Rattle.std.proofs.Common.{◌≡◌, ◌++◌, ◌∷◌, ◌-◌, [], ap, sym, ◌∙◌, subst, rules, None}
+use Rattle.std.proofs.Common.{◌-◌, rules}
 use Rattle.cli_sigs.specs.Read.{many, with_front}
 use Rattle.cli_sigs.specs.declared.elements.Slot.TheVariants.{Param}
 use Rattle.cli_sigs.specs.Reading.{type_at, open_params, Stops}

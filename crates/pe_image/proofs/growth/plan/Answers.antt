@@ -1,5 +1,4 @@
-use Rattle.std.proofs.Common.{◌≡◌, ◌+◌, ◌<◌, ◌≤◌, ◌^◌, ◌∙◌, ap, sym, arith}
-use Rattle.std.specs.Int.{next_multiple_of}
+use Rattle.std.proofs.Common.{◌<◌, ◌^◌, arith}
 use Rattle.pe_image.specs.Headers.{section_alignment}
 use Rattle.pe_image.proofs.GrowthLaws.{image_end}
 use Rattle.pe_image.proofs.growth.plan.Goals as goal

@@ -1,4 +1,4 @@
-use Rattle.std.proofs.Common.{◌≡◌, ◌≤◌, ◌^◌, length, ◌∙◌, ap, sym, subst, List, ℕ}
+use Rattle.std.proofs.Common.{◌≡◌, ◌+◌, ◌≤◌, ◌^◌, length, arith, ◌∙◌, ap, sym, subst, List, ℕ}
 use Rattle.std.proofs.lemmas.Result.{IfOk-weaker}
 use Rattle.std.specs.Prelude.{Result, Ok, Err, IfOk}
 use Rattle.cil_base.specs.declared.refusal.Refusal.{Refusal}
@@ -9,6 +9,9 @@ use Rattle.pe_image.specs.Sections.{part}
 use Rattle.pe_image.specs.Growth.{growth_of}
 use Rattle.pe_image.proofs.GrownLaws.{Sizes}
 use Rattle.pe_image.proofs.WrittenLaws.{Gives, grown_gives, grown_is, sizes, keeps, short_of, placed_at}
+use Rattle.pe_image.specs.Growth.{room_of}
+use Rattle.pe_image.specs.ReadBack.{Grows}
+use Rattle.pe_image.proofs.ReadBackLaws.{grows}
 use Rattle.pe_image.proofs.image.write_image.Goals as goal
 
 -- the definition over the image, as the code computes it
@@ -62,4 +65,17 @@ returns-clause-placed c =
     let s = c.args.section.now in
     IfOk-weaker c.write.result (Written c) (λ out. part out (new_place c.args.img.now.bytes (length s)) (length s) ≡ s)
     (λ out e. subst (λ (f : File). part out (new_place f.bytes (length s)) (length s) ≡ s) c.img.view_is (placed_at i.bytes.now i.headers i.cli_offset c.grown-cli.result s out c.img.invariant.0.headers (old_sizes c) (gives c out e)))
+    c.write.ensures.ok
+
+pub returns-clause-grows : goal.returns-clause-grows
+unfolding Written
+returns-clause-grows c =
+    let i = c.img.inside in
+    let s = c.args.section.now in
+    let rva = c.args.metadata_rva in
+    let len = c.args.metadata_len in
+    let within : IfOk (room_of i.bytes.now i.assembly) (λ room. (room ≤ rva) × (rva + len ≤ room + length s)) = subst (λ (f : File). IfOk (room_of f.bytes f.assembly) (λ room. (room ≤ rva) × (rva + len ≤ room + length s))) (sym c.img.view_is) c.requires.metadata in
+    IfOk-weaker c.write.result (Written c) (Grows c.args.img.now.bytes c.args.img.now.assembly s rva len)
+    (λ out e. subst (λ (f : File). Grows f.bytes f.assembly s rva len out) c.img.view_is
+    (grows i.bytes.now i.assembly i.headers i.cli_offset i.cli c.grown-cli.result s out rva len c.img.invariant.0 c.img.invariant.1 c.img.invariant.2 c.img.invariant.3 c.img.invariant.4 c.img.invariant.5 c.grown-cli.ensures e (omega arith) (omega arith) within))
     c.write.ensures.ok

@@ -1,4 +1,4 @@
-use Rattle.std.proofs.Common.{◌≡◌, ◌+◌, ◌-◌, ◌*◌, ◌<◌, ◌^◌, ◌∙◌, ◌++◌, ap, sym, arith, refl, ℕ}
+use Rattle.std.proofs.Common.{◌+◌, ◌-◌, ◌*◌, ◌++◌, arith, refl}
 use Rattle.pe_image.specs.Headers.{headers_size}
 use Rattle.pe_image.specs.Written.{moved_headers}
 use Rattle.pe_image.proofs.SectionLaws.{left, each_within}

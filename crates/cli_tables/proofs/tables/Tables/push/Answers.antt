@@ -1,4 +1,4 @@
-use Rattle.std.proofs.Common.{◌≡◌, ◌+◌, ◌<◌, ◌^◌, ℕ, List, set, sym, subst, arith}
+use Rattle.std.proofs.Common.{◌+◌, ◌<◌, ◌^◌, ℕ, List, set, sym, subst, arith}
 use Rattle.std.specs.Prelude.{OnOk}
 use Rattle.cli_tables.specs.Tables.{rows_of, IsAppended}
 use Rattle.cli_tables.proofs.GrowthLaws.{one_each, row_is, pushed_shape, pushed_table}

@@ -1,4 +1,4 @@
-use Rattle.std.proofs.Common.{◌<◌, ◌+◌, ◌^◌, ℕ, get_or, arith}
+use Rattle.std.proofs.Common.{◌<◌, ◌+◌, ◌^◌, get_or, arith}
 use Rattle.cli_tables.proofs.GrowthLaws.{row_fits}
 use Rattle.cli_tables.proofs.tables.Tables.rows_where.Goals as goal
 

@@ -1,4 +1,4 @@
-use Rattle.std.proofs.Common.{◌≡◌, ◌<◌, ℕ, List, set, sym, subst}
+use Rattle.std.proofs.Common.{ℕ, List, set, sym, subst}
 use Rattle.cli_tables.specs.Tables.{HasCell, IsSet}
 use Rattle.cli_tables.specs.Stream.{kind_of}
 use Rattle.cli_tables.proofs.GrowthLaws.{column_small}

@@ -1,0 +1,139 @@
+-- What is added to the bytes is a spelling of the value.
+use Rattle.std.proofs.Common.{◌≡◌, ℕ, zero, suc, ◌+◌, ◌-◌, ◌<◌, ◌≤◌, List, [], ◌∷◌, ◌++◌, length, take, drop, get_or, Bool, true, Option, Some, None, refl, sym, ap, subst, ◌∙◌, arith, append-nil, append_assoc, length-drop}
+use Rattle.std.proofs.lemmas.List.{take_more, take-append-drop, length-take-le}
+use Rattle.std.specs.Prelude.{ℤ, OnOk, Result, Ok, Err}
+use Rattle.cli_sigs.specs.declared.elements.Slot.{Slot}
+use Rattle.cli_sigs.specs.declared.elements.Slot.TheVariants.{Plain, Param}
+use Rattle.cli_sigs.specs.declared.elements.MethodKind.{MethodKind}
+use Rattle.cli_sigs.specs.declared.types.SigTy.{SigTy, out-SigTy, roll-SigTy, out-roll-SigTy}
+use Rattle.cli_sigs.specs.declared.types.SigTy.TheOpen.{SigTy-F}
+use Rattle.cli_sigs.specs.declared.types.SigTy.TheVariants as ty
+use Rattle.cli_sigs.specs.declared.types.SigTy.TheVariants.{rolls-Prim}
+use Rattle.cli_sigs.specs.declared.types.MethodSig.{MethodSig, out-MethodSig, roll-out-MethodSig}
+use Rattle.cli_sigs.specs.Elements.{kept}
+use Rattle.cli_sigs.specs.Methods.{returned, is_generic, is_vararg}
+use Rattle.cli_sigs.specs.Numbers.{IsPacked, IsSigned}
+use Rattle.cli_sigs.specs.Grammar.{Adds, Behind, Each, Counted, IsGenerics, IsParams, all_fixed, some_extra, IsMethod, method, Layer, prim, array, inst, modified, IsType, named_byte, modifier_byte, method_of}
+use Rattle.cli_sigs.specs.Valid.{StandsBefore, IsValidMethod, IsValidForm, IsValidType}
+
+-- ---- answers that are Ok
+
+pub on_ok : {A E : Type 0} (P Q : Type 0) (r : Result A E) → (P → Q) → OnOk r P → OnOk r Q
+on_ok P Q (Ok x) f h = f h
+on_ok P Q (Err e) f h = h
+
+-- ---- what a valid value has inside
+
+pub in_form : (Inner : Slot → SigTy → Type 0) (slot : Slot) (t u : SigTy) (form : SigTy-F SigTy MethodSig) → t ≡ u → roll-SigTy form ≡ u → IsValidForm Inner slot (out-SigTy t) → IsValidForm Inner slot form
+in_form Inner slot t u form is rolls h = subst (λ (x : SigTy-F SigTy MethodSig). IsValidForm Inner slot x) (ap out-SigTy (is ∙ sym rolls) ∙ out-roll-SigTy form) h
+
+-- ---- a byte and what stands behind it
+
+pub behind_byte : {A B : Type 0} (G : List ℕ → A → Type 0) (H : List ℕ → B → Type 0) (b : ℕ) (v : A) (w : B) (old mid new : List ℕ) → ((text : List ℕ) → G text v → H (b ∷ text) w) → mid ≡ old ++ b ∷ [] → Adds G mid new v → Adds H old new w
+behind_byte G H b v w old mid new f m (text, n, g) = (b ∷ text, n ∙ ap (λ (l : List ℕ). l ++ text) m ∙ append_assoc old (b ∷ []) text, f text g)
+
+-- ---- all that was printed
+
+pub from_empty : {A : Type 0} (G : List ℕ → A → Type 0) (new : List ℕ) (v : A) → Adds G [] new v → G new v
+from_empty G new v (text, e, g) = subst (λ (l : List ℕ). G l v) (sym e) g
+
+pub behind_first : {A : Type 0} (G : List ℕ → A → Type 0) (b : ℕ) (first new : List ℕ) (v : A) → first ≡ b ∷ [] → Adds G first new v → Behind b G new v
+behind_first G b first new v m (text, e, g) = (text, e ∙ ap (λ (l : List ℕ). l ++ text) m, g)
+
+-- ---- lists
+
+each_push : {A : Type 0} (G : List ℕ → A → Type 0) (bs text : List ℕ) (xs : List A) (y : A) → Each G bs xs → G text y → Each G (bs ++ text) (xs ++ y ∷ [])
+each_push G bs text [] y e g = (text, [], ap (λ (l : List ℕ). l ++ text) e ∙ sym (append-nil text), g, refl)
+each_push G bs text (x ∷ xs) y (f, b, e, gx, gs) g = (f, b ++ text, ap (λ (l : List ℕ). l ++ text) e ∙ append_assoc f b text, gx, each_push G b text xs y gs g)
+
+pub each_adds : {A : Type 0} (G : List ℕ → A → Type 0) (xs : List A) (i : ℕ) (d y : A) (old mid new : List ℕ) → i < length xs → y ≡ get_or xs i d → Adds (Each G) old mid (take i xs) → Adds G mid new y → Adds (Each G) old new (take (i + 1) xs)
+each_adds G xs i d y old mid new lt is (text, m, gs) (more, n, g) = (
+  text ++ more,
+  n ∙ ap (λ (l : List ℕ). l ++ more) m ∙ append_assoc old text more,
+  subst (λ l. Each G (text ++ more) l) (sym (take_more xs i d lt)) (subst (λ z. Each G (text ++ more) (take i xs ++ z ∷ [])) is (each_push G text more (take i xs) y gs g)),
+)
+
+-- ---- parameters
+
+pub none_adds : (P : List ℕ → SigTy → Type 0) (ts : List SigTy) (s : Option ℕ) (old new : List ℕ) → s ≡ None → Adds (Each P) old new ts → Adds (λ bs us. IsParams P true bs us s) old new ts
+none_adds P ts s old new is (text, m, g) = (text, m, subst (λ (z : Option ℕ). IsParams P true text ts z) (sym is) (all_fixed g))
+
+pub some_adds : (P : List ℕ → SigTy → Type 0) (ts : List SigTy) (s : Option ℕ) (k : ℕ) (o0 o1 o2 o3 : List ℕ) → s ≡ Some k → k < length ts → Adds (Each P) o0 o1 (take k ts) → o2 ≡ o1 ++ 0x41 ∷ [] → Adds (Each P) o2 o3 (drop k ts)
+    → Adds (λ bs us. IsParams P true bs us s) o0 o3 ts
+some_adds P ts s k o0 o1 o2 o3 is lt (front, e1, ef) e2 (back, e3, eb) =
+    let all : o3 ≡ o0 ++ (front ++ 0x41 ∷ back) = e3 ∙ ap (λ (l : List ℕ). l ++ back) (e2 ∙ ap (λ (l : List ℕ). l ++ 0x41 ∷ []) e1) ∙ simp append_assoc in
+    let some : 1 ≤ length (drop k ts) = grind (arith, length-drop) in
+    let same : Some (length (take k ts)) ≡ s = ap (λ (n : ℕ). let o : Option ℕ = Some n in o) (length-take-le k ts (omega arith)) ∙ sym is in
+    let whole : take k ts ++ drop k ts ≡ ts = take-append-drop k ts in (
+      front ++ 0x41 ∷ back,
+      all,
+      subst (λ (us : List SigTy). IsParams P true (front ++ 0x41 ∷ back) us s) whole
+          (subst (λ (z : Option ℕ). IsParams P true (front ++ 0x41 ∷ back) (take k ts ++ drop k ts) z) same (some_extra front back (take k ts) (drop k ts) refl ef eb some)),
+    )
+
+params_in : (P : List ℕ → SigTy → Type 0) (vararg : Bool) (bs : List ℕ) (ts : List SigTy) (s : Option ℕ) → StandsBefore vararg (length ts) s → IsParams P true bs ts s → IsParams P vararg bs ts s
+params_in P vararg bs ts s h (all_fixed e) = all_fixed e
+params_in P vararg bs ts s h (some_extra front back fixed extra t ef eb n) = some_extra front back fixed extra h.0 ef eb n
+
+module _ (I : Slot → List ℕ → SigTy → Type 0) where
+  pub method_adds : (Inner : Slot → SigTy → Type 0) (kind : MethodKind) (sig : MethodSig) (o0 o1 o2 o3 o4 o5 : List ℕ) → IsValidMethod Inner kind sig
+      → o1 ≡ o0 ++ (out-MethodSig sig).flags ∷ [] → Adds (IsGenerics (is_generic (out-MethodSig sig).flags)) o1 o2 (out-MethodSig sig).generics → Adds IsPacked o2 o3 (length (out-MethodSig sig).params)
+      → Adds (I (returned kind)) o3 o4 (out-MethodSig sig).result → Adds (λ bs ts. IsParams (I Param) true bs ts (out-MethodSig sig).sentinel) o4 o5 (out-MethodSig sig).params → Adds (IsMethod I kind) o0 o5 sig
+  method_adds Inner kind sig o0 o1 o2 o3 o4 o5 valid e1 (gs, e2, g) (ns, e3, n) (rs, e4, r) (ps, e5, p) =
+      let m = out-MethodSig sig in
+      let all : o5 ≡ o0 ++ (m.flags ∷ gs ++ (ns ++ (rs ++ ps))) =
+      e5 ∙ ap (λ (l : List ℕ). l ++ ps) (e4 ∙ ap (λ (l : List ℕ). l ++ rs) (e3 ∙ ap (λ (l : List ℕ). l ++ ns) (e2 ∙ ap (λ (l : List ℕ). l ++ gs) e1))) ∙ simp append_assoc in
+      let spelled : IsMethod I kind (m.flags ∷ gs ++ (ns ++ (rs ++ ps))) (method_of m.flags m.generics m.result m.params m.sentinel) =
+      method gs ns rs ps valid.begins g n r (params_in (I Param) (is_vararg m.flags) ps m.params m.sentinel valid.sentinel p) in
+      (m.flags ∷ gs ++ (ns ++ (rs ++ ps)), all, subst (λ (x : MethodSig). IsMethod I kind (m.flags ∷ gs ++ (ns ++ (rs ++ ps))) x) (roll-out-MethodSig sig) spelled)
+
+  -- ---- types
+
+  module _ (slot : Slot) where
+    pub form_adds : {A E X : Type 0} (G : List ℕ → A → Type 0) (b : ℕ) (v : A) (t u : SigTy) (old mid new : List ℕ) (r : Result X E) → ((text : List ℕ) → G text v → Layer I slot (b ∷ text) u) → t ≡ u → mid ≡ old ++ b ∷ [] → OnOk r (Adds G mid new v) → OnOk r (Adds (Layer I slot) old new t)
+    form_adds G b v t u old mid new r f is m h =
+        on_ok _ _ r (behind_byte G (Layer I slot) b v t old mid new (λ text g. subst (λ (x : SigTy). Layer I slot (b ∷ text) x) (sym is) (f text g)) m) h
+
+    pub prim_adds : (Inner : Slot → SigTy → Type 0) (b : ℕ) (t : SigTy) (old new : List ℕ) → t ≡ ty.Prim b → IsValidForm Inner slot (out-SigTy t) → new ≡ old ++ b ∷ [] → Adds (Layer I slot) old new t
+    prim_adds Inner b t old new is valid e =
+        let h = in_form Inner slot t (ty.Prim b) (SigTy-F.Prim b) is (rolls-Prim b) valid in
+        (b ∷ [], e, subst (λ (x : SigTy). Layer I slot (b ∷ []) x) (sym is) (prim h.0 h.1))
+
+    pub array_adds : (v t : SigTy) (rank : ℕ) (sizes : List ℕ) (lows : List ℤ) (o0 o1 o2 o3 o4 o5 : List ℕ) → v ≡ ty.Array t rank sizes lows → o1 ≡ o0 ++ 0x14 ∷ [] → Adds (I Plain) o1 o2 t → Adds IsPacked o2 o3 rank
+        → Adds (Counted IsPacked) o3 o4 sizes → Adds (Counted IsSigned) o4 o5 lows → Adds (Layer I slot) o0 o5 v
+    array_adds v t rank sizes lows o0 o1 o2 o3 o4 o5 is e1 (ts, e2, it) (rs, e3, pr) (ss, e4, cs) (ls, e5, cl) =
+        let all : o5 ≡ o0 ++ (0x14 ∷ ts ++ (rs ++ (ss ++ ls))) =
+        e5 ∙ ap (λ (l : List ℕ). l ++ ls) (e4 ∙ ap (λ (l : List ℕ). l ++ ss) (e3 ∙ ap (λ (l : List ℕ). l ++ rs) (e2 ∙ ap (λ (l : List ℕ). l ++ ts) e1))) ∙ simp append_assoc in
+        (0x14 ∷ ts ++ (rs ++ (ss ++ ls)), all, subst (λ (x : SigTy). Layer I slot (0x14 ∷ ts ++ (rs ++ (ss ++ ls))) x) (sym is) (array sizes lows ts rs ss ls it pr cs cl))
+
+    pub inst_adds : (v : SigTy) (value : Bool) (coded : ℕ) (args : List SigTy) (k : ℕ) (o0 o1 o2 o3 o4 : List ℕ) → v ≡ ty.Inst value coded args → k ≡ named_byte value → o1 ≡ o0 ++ 0x15 ∷ [] → o2 ≡ o1 ++ k ∷ []
+        → Adds IsPacked o2 o3 coded → Adds (Counted (I Plain)) o3 o4 args → Adds (Layer I slot) o0 o4 v
+    inst_adds v value coded args k o0 o1 o2 o3 o4 is ks e1 e2 (cs, e3, pc) (ts, e4, ca) =
+        let named : o2 ≡ o1 ++ named_byte value ∷ [] = e2 ∙ ap (λ (n : ℕ). o1 ++ n ∷ []) ks in
+        let all : o4 ≡ o0 ++ (0x15 ∷ named_byte value ∷ cs ++ ts) = e4 ∙ ap (λ (l : List ℕ). l ++ ts) (e3 ∙ ap (λ (l : List ℕ). l ++ cs) (named ∙ ap (λ (l : List ℕ). l ++ named_byte value ∷ []) e1)) ∙ simp append_assoc in
+        (0x15 ∷ named_byte value ∷ cs ++ ts, all, subst (λ (x : SigTy). Layer I slot (0x15 ∷ named_byte value ∷ cs ++ ts) x) (sym is) (inst value args cs ts pc ca))
+
+    pub modified_adds : (v t : SigTy) (required : Bool) (coded k : ℕ) (s : Slot) (o0 o1 o2 o3 : List ℕ) → v ≡ ty.Modified required coded t → k ≡ modifier_byte required → s ≡ kept slot → o1 ≡ o0 ++ k ∷ []
+        → Adds IsPacked o1 o2 coded → Adds (I s) o2 o3 t → Adds (Layer I slot) o0 o3 v
+    modified_adds v t required coded k s o0 o1 o2 o3 is ks ss e1 (cs, e2, pc) (ts, e3, it) =
+        let first : o1 ≡ o0 ++ modifier_byte required ∷ [] = e1 ∙ ap (λ (n : ℕ). o0 ++ n ∷ []) ks in
+        let all : o3 ≡ o0 ++ (modifier_byte required ∷ cs ++ ts) = e3 ∙ ap (λ (l : List ℕ). l ++ ts) (e2 ∙ ap (λ (l : List ℕ). l ++ cs) first) ∙ simp append_assoc in
+        let inner : I (kept slot) ts t = subst (λ (z : Slot). I z ts t) ss it in
+        (modifier_byte required ∷ cs ++ ts, all, subst (λ (x : SigTy). Layer I slot (modifier_byte required ∷ cs ++ ts) x) (sym is) (modified required cs ts pc inner))
+
+-- ---- depth
+
+pub deep : (d : ℕ) (slot : Slot) (t : SigTy) → IsValidType d slot t → 1 ≤ d
+unfolding IsValidType
+deep zero slot t h = absurd h
+deep (suc d) slot t h = omega arith
+
+pub opened : (d : ℕ) (slot : Slot) (t : SigTy) → IsValidType d slot t → IsValidForm (IsValidType (d - 1)) slot (out-SigTy t)
+unfolding IsValidType
+opened zero slot t h = absurd h
+opened (suc d) slot t h = let one : d ≡ suc d - 1 = omega arith in subst (λ (k : ℕ). IsValidForm (IsValidType k) slot (out-SigTy t)) one h
+
+pub closed : (d : ℕ) (slot : Slot) (t : SigTy) (old new : List ℕ) → IsValidType d slot t → Adds (Layer (IsType (d - 1)) slot) old new t → Adds (IsType d slot) old new t
+unfolding IsValidType IsType
+closed zero slot t old new h a = absurd h
+closed (suc d) slot t old new h a = let one : suc d - 1 ≡ d = omega arith in subst (λ (k : ℕ). Adds (Layer (IsType k) slot) old new t) one a

@@ -1,0 +1,107 @@
+-- Each form of a type, and a method, from its parts.
+use Rattle.std.proofs.Common.{rules}
+use Rattle.cli_sigs.specs.declared.elements.Slot.TheVariants.{Plain, Pointed, Param}
+use Rattle.cli_sigs.specs.declared.elements.MethodKind.TheVariants.{Pointer}
+use Rattle.cli_sigs.specs.declared.types.SigTy.TheVariants as ty
+use Rattle.cli_sigs.specs.declared.types.SigTy.TheVariants.{rolls-ByRef, rolls-Pinned}
+use Rattle.cli_sigs.specs.declared.types.SigTy.TheOpen.{SigTy-F}
+use Rattle.cli_sigs.specs.declared.types.MethodSig.{out-MethodSig}
+use Rattle.cli_sigs.specs.Numbers.{IsPacked}
+use Rattle.cli_sigs.specs.Grammar.{IsType, IsMethod, ptr, by_ref, named, var, mvar, func, sz_array, pinned, named_byte}
+use Rattle.cli_sigs.specs.Valid.{IsValidType}
+use Rattle.cli_sigs.proofs.PrintLaws.{on_ok, each_adds, none_adds, some_adds, method_adds, form_adds, prim_adds, array_adds, inst_adds, modified_adds, in_form, deep, opened, closed}
+use Rattle.cli_sigs.proofs.printing.+printer.Goals as goal
+
+pub push_each_type-loop-ty-preserved : goal.push_each_type-loop-ty-preserved
+push_each_type-loop-ty-preserved t c =
+    each_adds (IsType c.args.depth c.args.slot) c.args.types.now c.loop-ty.ty-index c.ty-item.result c.ty-item.result c.args.out.now c.loop-ty.out c.push_type.new.out c.loop-ty-test.true c.ty-item.is c.loop-ty.invariant c.in_ok-push_type.ensures
+
+pub push_params-returns-in-None : goal.push_params-returns-in-None
+push_params-returns-in-None t c =
+    on_ok _ _ c.push_each_type.result (none_adds (IsType c.args.depth Param) c.args.params.now c.args.sentinel c.args.out.now c.push_each_type.new.out c.in-None.is) c.push_each_type.ensures
+
+pub push_params-returns-in_ok-push-in-Some : goal.push_params-returns-in_ok-push-in-Some
+push_params-returns-in_ok-push-in-Some t c =
+    let marked = rw c.in-Some.is at c.requires.marked in
+    let front = rw c.split_at.ensures.front at c.in_ok-push_each_type-in-Some.ensures in
+    on_ok _ _ c.push_each_type-in-Some-2.result
+    (some_adds (IsType c.args.depth Param) c.args.params.now c.args.sentinel c.in-Some.k c.args.out.now c.push_each_type-in-Some.new.out c.push.new.self c.push_each_type-in-Some-2.new.out c.in-Some.is marked.1 front c.in_ok-push-in-Some.ensures.ok)
+    (rw c.split_at.ensures.back at c.push_each_type-in-Some-2.ensures)
+
+pub push_method-returns : goal.push_method-returns
+push_method-returns t c =
+    let m = out-MethodSig c.args.sig.now in
+    let generics = rw c.is_generic.ensures at c.in_ok-push_generics.ensures in
+    let count = rw c.len.ensures at c.in_ok-push_number.ensures in
+    let result = rw c.returned.ensures at c.in_ok-push_type.ensures in
+    on_ok _ _ c.push_params.result
+    (method_adds (IsType c.args.depth) (IsValidType c.args.depth) c.args.kind c.args.sig.now c.args.out.now c.push.new.self c.push_generics.new.out c.push_number.new.out c.push_type.new.out c.push_params.new.out c.requires c.in_ok-push.ensures.ok generics count result)
+    (rw c.as_slice.ensures at c.push_params.ensures)
+
+pub push_form-returns-in-Prim : goal.push_form-returns-in-Prim
+push_form-returns-in-Prim t c =
+    on_ok _ _ c.push.result (prim_adds (IsType c.args.depth) c.args.slot (IsValidType c.args.depth) c.in-Prim.b c.args.ty.now c.args.out.now c.push.new.self c.in-Prim.is c.requires) c.push.ensures.ok
+
+pub push_form-returns-in_ok-push-in-Ptr : goal.push_form-returns-in_ok-push-in-Ptr
+push_form-returns-in_ok-push-in-Ptr t c =
+    form_adds (IsType c.args.depth) c.args.slot (IsType c.args.depth Pointed) 0x0F c.in-Ptr.inner c.args.ty.now (ty.Ptr c.in-Ptr.inner) c.args.out.now c.push-in-Ptr.new.self c.push_type.new.out c.push_type.result (λ text g. ptr g) c.in-Ptr.is c.in_ok-push-in-Ptr.ensures.ok (rw c.get.ensures at c.push_type.ensures)
+
+pub push_form-returns-in_ok-push-in-ByRef : goal.push_form-returns-in_ok-push-in-ByRef
+push_form-returns-in_ok-push-in-ByRef t c =
+    form_adds (IsType c.args.depth) c.args.slot (IsType c.args.depth Plain) 0x10 c.in-ByRef.inner c.args.ty.now (ty.ByRef c.in-ByRef.inner) c.args.out.now c.push-in-ByRef.new.self c.push_type-in-ByRef.new.out c.push_type-in-ByRef.result (λ text g. by_ref (in_form (IsValidType c.args.depth) c.args.slot c.args.ty.now (ty.ByRef c.in-ByRef.inner) (SigTy-F.ByRef c.in-ByRef.inner) c.in-ByRef.is (rolls-ByRef c.in-ByRef.inner) c.requires).0 g) c.in-ByRef.is c.in_ok-push-in-ByRef.ensures.ok (rw c.get-in-ByRef.ensures at c.push_type-in-ByRef.ensures)
+
+pub push_form-returns-in_ok-push-in-Named : goal.push_form-returns-in_ok-push-in-Named
+push_form-returns-in_ok-push-in-Named t c =
+    form_adds (IsType c.args.depth) c.args.slot IsPacked (named_byte c.in-Named.value) c.in-Named.coded c.args.ty.now (ty.Named c.in-Named.value c.in-Named.coded) c.args.out.now c.push-in-Named.new.self c.push_number.new.out c.push_number.result (λ text g. named c.in-Named.value g) c.in-Named.is (rw c.named_byte.ensures at c.in_ok-push-in-Named.ensures.ok) c.push_number.ensures
+
+pub push_form-returns-in_ok-push-in-Var : goal.push_form-returns-in_ok-push-in-Var
+push_form-returns-in_ok-push-in-Var t c =
+    form_adds (IsType c.args.depth) c.args.slot IsPacked 0x13 c.in-Var.n c.args.ty.now (ty.Var c.in-Var.n) c.args.out.now c.push-in-Var.new.self c.push_number-in-Var.new.out c.push_number-in-Var.result (λ text g. var g) c.in-Var.is c.in_ok-push-in-Var.ensures.ok c.push_number-in-Var.ensures
+
+pub push_form-returns-in_ok-push-in-MVar : goal.push_form-returns-in_ok-push-in-MVar
+push_form-returns-in_ok-push-in-MVar t c =
+    form_adds (IsType c.args.depth) c.args.slot IsPacked 0x1E c.in-MVar.n c.args.ty.now (ty.MVar c.in-MVar.n) c.args.out.now c.push-in-MVar.new.self c.push_number-in-MVar.new.out c.push_number-in-MVar.result (λ text g. mvar g) c.in-MVar.is c.in_ok-push-in-MVar.ensures.ok c.push_number-in-MVar.ensures
+
+pub push_form-returns-in_ok-push-in-Func : goal.push_form-returns-in_ok-push-in-Func
+push_form-returns-in_ok-push-in-Func t c =
+    form_adds (IsType c.args.depth) c.args.slot (IsMethod (IsType c.args.depth) Pointer) 0x1B c.in-Func.method c.args.ty.now (ty.Func c.in-Func.method) c.args.out.now c.push-in-Func.new.self c.push_method.new.out c.push_method.result (λ text g. func g) c.in-Func.is c.in_ok-push-in-Func.ensures.ok (rw c.get-in-Func.ensures at c.push_method.ensures)
+
+pub push_form-returns-in_ok-push-in-SzArray : goal.push_form-returns-in_ok-push-in-SzArray
+push_form-returns-in_ok-push-in-SzArray t c =
+    form_adds (IsType c.args.depth) c.args.slot (IsType c.args.depth Plain) 0x1D c.in-SzArray.inner c.args.ty.now (ty.SzArray c.in-SzArray.inner) c.args.out.now c.push-in-SzArray.new.self c.push_type-in-SzArray.new.out c.push_type-in-SzArray.result (λ text g. sz_array g) c.in-SzArray.is c.in_ok-push-in-SzArray.ensures.ok (rw c.get-in-SzArray.ensures at c.push_type-in-SzArray.ensures)
+
+pub push_form-returns-in_ok-push-in-Pinned : goal.push_form-returns-in_ok-push-in-Pinned
+push_form-returns-in_ok-push-in-Pinned t c =
+    form_adds (IsType c.args.depth) c.args.slot (IsType c.args.depth c.kept-in-Pinned.result) 0x45 c.in-Pinned.inner c.args.ty.now (ty.Pinned c.in-Pinned.inner) c.args.out.now c.push-in-Pinned.new.self c.push_type-in-Pinned.new.out c.push_type-in-Pinned.result (λ text g. pinned (in_form (IsValidType c.args.depth) c.args.slot c.args.ty.now (ty.Pinned c.in-Pinned.inner) (SigTy-F.Pinned c.in-Pinned.inner) c.in-Pinned.is (rolls-Pinned c.in-Pinned.inner) c.requires).0 (rw (← c.kept-in-Pinned.ensures) g)) c.in-Pinned.is c.in_ok-push-in-Pinned.ensures.ok (rw c.get-in-Pinned.ensures at c.push_type-in-Pinned.ensures)
+
+pub push_form-returns-in_ok-push_numbers-in-Array : goal.push_form-returns-in_ok-push_numbers-in-Array
+push_form-returns-in_ok-push_numbers-in-Array t c =
+    let item = rw c.get-in-Array.ensures at c.in_ok-push_type-in-Array.ensures in
+    let sizes = rw c.as_slice.ensures at c.in_ok-push_numbers-in-Array.ensures in
+    on_ok _ _ c.push_bounds.result
+    (array_adds (IsType c.args.depth) c.args.slot c.args.ty.now c.in-Array.item c.in-Array.rank c.in-Array.sizes c.in-Array.lows c.args.out.now c.push-in-Array.new.self c.push_type-in-Array.new.out c.push_number-in-Array.new.out c.push_numbers.new.out c.push_bounds.new.out c.in-Array.is c.in_ok-push-in-Array.ensures.ok item c.in_ok-push_number-in-Array.ensures sizes)
+    (rw c.as_slice-in-Array.ensures at c.push_bounds.ensures)
+
+pub push_form-returns-in_ok-push_number-in-Inst : goal.push_form-returns-in_ok-push_number-in-Inst
+push_form-returns-in_ok-push_number-in-Inst t c =
+    on_ok _ _ c.push_types.result
+    (inst_adds (IsType c.args.depth) c.args.slot c.args.ty.now c.in-Inst.value c.in-Inst.coded c.in-Inst.args c.named_byte-in-Inst.result c.args.out.now c.push-in-Inst.new.self c.push-in-Inst-2.new.self c.push_number-in-Inst.new.out c.push_types.new.out c.in-Inst.is c.named_byte-in-Inst.ensures c.in_ok-push-in-Inst.ensures.ok c.in_ok-push-in-Inst-2.ensures.ok c.in_ok-push_number-in-Inst.ensures)
+    (rw c.as_slice-in-Inst.ensures at c.push_types.ensures)
+
+pub push_form-returns-in_ok-push_number-in-Modified : goal.push_form-returns-in_ok-push_number-in-Modified
+push_form-returns-in_ok-push_number-in-Modified t c =
+    on_ok _ _ c.push_type-in-Modified.result
+    (modified_adds (IsType c.args.depth) c.args.slot c.args.ty.now c.in-Modified.inner c.in-Modified.required c.in-Modified.coded c.modifier_byte.result c.kept.result c.args.out.now c.push-in-Modified.new.self c.push_number-in-Modified.new.out c.push_type-in-Modified.new.out c.in-Modified.is c.modifier_byte.ensures c.kept.ensures c.in_ok-push-in-Modified.ensures.ok c.in_ok-push_number-in-Modified.ensures)
+    (rw c.get-in-Modified.ensures at c.push_type-in-Modified.ensures)
+
+pub push_type-overflow_sub-depth : goal.push_type-overflow_sub-depth
+push_type-overflow_sub-depth t c = deep c.args.depth c.args.slot c.args.ty.now c.requires
+
+pub push_type-push_form-requires : goal.push_type-push_form-requires
+push_type-push_form-requires t c =
+    let low = deep c.args.depth c.args.slot c.args.ty.now c.requires in
+    (search rules, opened c.args.depth c.args.slot c.args.ty.now c.requires)
+
+pub push_type-returns : goal.push_type-returns
+push_type-returns t c =
+    on_ok _ _ c.push_form.result (closed c.args.depth c.args.slot c.args.ty.now c.args.out.now c.push_form.new.out c.requires) c.push_form.ensures

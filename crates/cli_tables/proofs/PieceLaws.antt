@@ -1,0 +1,209 @@
+-- Pieces that stand in a list of bytes, and the numbers that they are read as.
+use Rattle.std.proofs.Common.{◌≡◌, ℕ, zero, suc, ◌+◌, ◌-◌, ◌*◌, ◌/◌, ◌%◌, ◌^◌, ◌<◌, ◌≤◌, eqb, Bool, true, false, cond, ltb, ◌&&◌, List, [], ◌∷◌, ◌++◌, length, get_or, drop, take, map, refl, sym, ap, ◌∙◌, subst, inl, inr, arith, add-one, append_assoc}
+use Rattle.std.specs.List.{flat_map, list_all, range_with_len}
+use Rattle.std.proofs.lemmas.List.{append-nil, length-append}
+use Rattle.std.proofs.lemmas.List.Folds.{flat_map-map, list_all_at}
+use Rattle.std.proofs.lemmas.List.FromFn.{map-range_with_len_more, length-range_with_len, get_or-range_with_len}
+use Rattle.std.proofs.lemmas.Grind.{flat_map-append}
+use Rattle.std.proofs.lemmas.Bool.{cases_lt, cases_Bool, lt-ltb}
+use Rattle.std.proofs.lemmas.Nat.{pow_pos, pow-add}
+use Rattle.std.proofs.Math.Seq.{drop-append_seam, take-append_seam}
+use Rattle.std.specs.Int.{w32, byte_at, bytes_low_first, to_le_bytes}
+use Rattle.std.proofs.Math.Nat.{pow-suc, pow-le-pow_right, add-mul-div_left, add-mul-mod_self_left, div-eq_of_lt, mod-eq_of_lt}
+use Rattle.std.proofs.Math.Pow.{pow-lt}
+use Rattle.byteorder.specs.Endian.{little_number}
+use Rattle.byteorder.specs.Numbers.{little_number-reads_back, length-bytes_low_first}
+use Rattle.cil_base.specs.Numbers.{num}
+use Rattle.cli_tables.specs.Stream.{has_bit}
+use Rattle.cli_tables.specs.Written.{pieces, number_bytes, bits_of}
+
+pub pieces_none : (f : ℕ → List ℕ) → pieces f 0 ≡ []
+unfolding pieces
+pieces_none f = refl
+
+-- the pieces up to the next number
+pub pieces_more : (f : ℕ → List ℕ) (n : ℕ) → pieces f (n + 1) ≡ pieces f n ++ f n
+unfolding pieces
+pieces_more f n =
+    let same : (xs : List ℕ) → flat_map f (map (λ (k : ℕ). k) xs) ≡ flat_map f xs = λ xs. flat_map-map f (λ (k : ℕ). k) xs in
+    sym (same (range_with_len 0 (n + 1))) ∙ ap (flat_map f) (map-range_with_len_more (λ (k : ℕ). k) 0 n n (omega arith))
+    ∙ flat_map-append f (map (λ (k : ℕ). k) (range_with_len 0 n)) (n ∷ [])
+    ∙ ap (λ (l : List ℕ). l ++ (f n ++ [])) (same (range_with_len 0 n)) ∙ ap (λ (l : List ℕ). pieces f n ++ l) (append-nil (f n))
+
+pub pieces_suc : (f : ℕ → List ℕ) (n : ℕ) → pieces f (suc n) ≡ pieces f n ++ f n
+pieces_suc f n = ap (pieces f) (sym (add-one n)) ∙ pieces_more f n
+
+pub pieces_same : (f g : ℕ → List ℕ) (n : ℕ) → ((k : ℕ) → k < n → f k ≡ g k) → pieces f n ≡ pieces g n
+pieces_same f g zero h = pieces_none f ∙ sym (pieces_none g)
+pieces_same f g (suc n) h =
+    pieces_suc f n ∙ ap (λ (l : List ℕ). l ++ f n) (pieces_same f g n (λ k lt. h k (omega (arith, lt)))) ∙ ap (λ (l : List ℕ). pieces g n ++ l) (h n (omega arith)) ∙ sym (pieces_suc g n)
+
+-- The piece stands at the place.
+pub record IsAt (bytes : List ℕ) (at : ℕ) (piece : List ℕ) : Type 0 where
+  pub before : List ℕ
+  pub after : List ℕ
+  pub place : length before ≡ at
+  pub split : bytes ≡ before ++ (piece ++ after)
+
+pub at_first : (p q : List ℕ) → IsAt (p ++ q) 0 p
+at_first p q = record { before = []; after = q; place = refl; split = refl }
+
+pub at_last : (p q : List ℕ) → IsAt (p ++ q) (length p) q
+at_last p q = record { before = p; after = []; place = refl; split = ap (λ (l : List ℕ). p ++ l) (sym (append-nil q)) }
+
+-- a piece of a piece
+pub at_in : (bytes p q : List ℕ) (a b : ℕ) → IsAt bytes a p → IsAt p b q → IsAt bytes (a + b) q
+at_in bytes p q a b x y = record {
+  before = x.before ++ y.before;
+  after = y.after ++ x.after;
+  place = omega (arith, length-append x.before y.before, x.place, y.place);
+  split =
+      x.split ∙ ap (λ (l : List ℕ). x.before ++ (l ++ x.after)) y.split
+      ∙ ap (λ (l : List ℕ). x.before ++ l) (append_assoc y.before (q ++ y.after) x.after ∙ ap (λ (l : List ℕ). y.before ++ l) (append_assoc q y.after x.after))
+      ∙ sym (append_assoc x.before y.before (q ++ (y.after ++ x.after)));
+}
+
+pub at_moved : (bytes p : List ℕ) (a b : ℕ) → IsAt bytes a p → a ≡ b → IsAt bytes b p
+at_moved bytes p a b x e = subst (λ (k : ℕ). IsAt bytes k p) e x
+
+pub at_equal : (bytes p q : List ℕ) (a : ℕ) → IsAt bytes a p → p ≡ q → IsAt bytes a q
+at_equal bytes p q a x e = subst (λ (l : List ℕ). IsAt bytes a l) e x
+
+pub at_within : (bytes p : List ℕ) (a : ℕ) → IsAt bytes a p → a + length p ≤ length bytes
+at_within bytes p a x =
+    omega (arith, ap (λ (l : List ℕ). length l) x.split, length-append x.before (p ++ x.after), length-append p x.after, x.place)
+
+pub at_piece : (f : ℕ → List ℕ) (n k : ℕ) → k < n → IsAt (pieces f n) (length (pieces f k)) (f k)
+at_piece f zero k lt = absurd (omega arith)
+at_piece f (suc n) k lt = subst (λ (l : List ℕ). IsAt l (length (pieces f k)) (f k)) (sym (pieces_suc f n)) (elim (cases_lt k n) [
+  | inl less ↦ at_moved (pieces f n ++ f n) (f k) (0 + length (pieces f k)) (length (pieces f k)) (at_in (pieces f n ++ f n) (pieces f n) (f k) 0 (length (pieces f k)) (at_first (pieces f n) (f n)) (at_piece f n k less)) (omega arith)
+  | inr le ↦ let e : k ≡ n = omega arith in subst (λ (j : ℕ). IsAt (pieces f n ++ f n) (length (pieces f j)) (f j)) (sym e) (at_last (pieces f n) (f n))
+])
+
+pub dropped : (bytes p : List ℕ) (a : ℕ) → IsAt bytes a p → (rest : List ℕ) × (drop a bytes ≡ p ++ rest)
+dropped bytes p a x =
+    (x.after, ap (λ (k : ℕ). drop k bytes) (sym x.place) ∙ ap (drop (length x.before)) x.split ∙ drop-append_seam x.before (p ++ x.after))
+
+pub at_number : (bytes : List ℕ) (a width n : ℕ) → IsAt bytes a (number_bytes width n) → n < 256 ^ width → num bytes a width ≡ n
+unfolding num number_bytes
+at_number bytes a width n x small =
+    let d = dropped bytes (number_bytes width n) a x in
+    ap (little_number width) d.1 ∙ little_number-reads_back width n d.0 small
+
+pub at_byte : (bytes : List ℕ) (a b : ℕ) → IsAt bytes a (b ∷ []) → num bytes a 1 ≡ b
+unfolding num
+at_byte bytes a b x =
+    let d = dropped bytes (b ∷ []) a x in
+    ap (little_number 1) d.1 ∙ omega arith
+
+pub length_number : (width n : ℕ) → length (number_bytes width n) ≡ width
+unfolding number_bytes
+length_number width n = length-bytes_low_first 0 width n
+
+pub take_low : (i k n x : ℕ) → n ≤ k → take n (bytes_low_first i k x) ≡ bytes_low_first i n x
+take_low i k zero x le = refl
+take_low i zero (suc n) x le = absurd (omega arith)
+take_low i (suc k) (suc n) x le = ap (λ (l : List ℕ). byte_at i x ∷ l) (take_low (suc i) k n x (omega arith))
+
+-- the lowest bytes of a number of four
+pub number_taken : (width n : ℕ) → width ≤ 4 → take width (to_le_bytes w32 n) ≡ number_bytes width n
+unfolding number_bytes
+number_taken width n le = take_low 0 4 width n le
+
+pub take_at : (bytes p : List ℕ) (a n : ℕ) → IsAt bytes a p → length p ≡ n → take n (drop a bytes) ≡ p
+take_at bytes p a n x e =
+    let d = dropped bytes p a x in
+    ap (take n) d.1 ∙ ap (λ (k : ℕ). take k (p ++ d.0)) (sym e) ∙ take-append_seam p d.0
+
+-- ---- pieces that are appended in turn
+
+pub pieces_begun : (start : List ℕ) (f : ℕ → List ℕ) → start ≡ start ++ pieces f 0
+pieces_begun start f = sym (append-nil start) ∙ ap (λ (l : List ℕ). start ++ l) (sym (pieces_none f))
+
+pub pieces_pushed : (start out new piece : List ℕ) (f : ℕ → List ℕ) (n : ℕ) → out ≡ start ++ pieces f n → new ≡ out ++ piece → piece ≡ f n → new ≡ start ++ pieces f (n + 1)
+pieces_pushed start out new piece f n before push e =
+    push ∙ ap (λ (l : List ℕ). l ++ piece) before ∙ append_assoc start (pieces f n) piece
+    ∙ ap (λ (l : List ℕ). start ++ (pieces f n ++ l)) e ∙ ap (λ (l : List ℕ). start ++ l) (sym (pieces_more f n))
+
+-- ---- the bits of the numbers that pass a test
+
+pub bits_more : (p : ℕ → Bool) (n : ℕ) → bits_of p (n + 1) ≡ bits_of p n + cond (p n) (2 ^ n) 0
+unfolding bits_of
+bits_more p n = rw add-one refl
+
+pub bits_small : (p : ℕ → Bool) (n : ℕ) → bits_of p n < 2 ^ n
+unfolding bits_of
+bits_small p zero = omega arith
+bits_small p (suc n) = go (p n) (bits_small p n)
+  where
+    go : (b : Bool) → bits_of p n < 2 ^ n → bits_of p n + cond b (2 ^ n) 0 < 2 ^ suc n
+    go true h = omega (arith, h, pow-suc 2 n)
+    go false h = omega (arith, h, pow-suc 2 n)
+
+-- a higher bit leaves a lower one as it was
+low_bit : (x n k : ℕ) → k < n → has_bit (x + 2 ^ n) k ≡ has_bit x k
+low_bit x n k lt =
+    let m : ℕ = 2 ^ (n - k - 1) in
+    let split : 2 ^ n ≡ 2 ^ k * (2 * 2 ^ (n - k - 1)) =
+    let e : n ≡ k + (1 + (n - k - 1)) = omega arith in ap (λ (j : ℕ). 2 ^ j) e ∙ pow-add 2 k (1 + (n - k - 1)) ∙ ap (λ (j : ℕ). 2 ^ k * j) (pow-add 2 1 (n - k - 1)) in
+    let high : (x + 2 ^ n) / 2 ^ k ≡ x / 2 ^ k + 2 * 2 ^ (n - k - 1) = ap (λ (j : ℕ). (x + j) / 2 ^ k) split ∙ add-mul-div_left x (2 * 2 ^ (n - k - 1)) (pow_pos k) in
+    ap (λ (j : ℕ). eqb (j % 2) 1) high ∙ ap (λ (j : ℕ). eqb j 1) (add-mul-mod_self_left (x / 2 ^ k) 2 (2 ^ (n - k - 1)))
+
+top_bit : (x n : ℕ) (b : Bool) → x < 2 ^ n → has_bit (x + cond b (2 ^ n) 0) n ≡ b
+top_bit x n true lt =
+    let one : (x + 2 ^ n) / 2 ^ n ≡ 1 =
+    let e : 2 ^ n ≡ 2 ^ n * 1 = omega arith in ap (λ (j : ℕ). (x + j) / 2 ^ n) e ∙ add-mul-div_left x 1 (pow_pos n) ∙ ap (λ (j : ℕ). j + 1) (div-eq_of_lt lt) in
+    ap (λ (j : ℕ). eqb (j % 2) 1) one
+top_bit x n false lt =
+    let e : x + 0 ≡ x = omega arith in
+    ap (λ (j : ℕ). eqb (j / 2 ^ n % 2) 1) e ∙ ap (λ (j : ℕ). eqb (j % 2) 1) (div-eq_of_lt lt)
+
+pub bits_bit : (p : ℕ → Bool) (n k : ℕ) → k < n → has_bit (bits_of p n) k ≡ p k
+unfolding bits_of
+bits_bit p zero k lt = absurd (omega arith)
+bits_bit p (suc n) k lt = elim (cases_lt k n) [
+  | inl less ↦ low (p n) less ∙ bits_bit p n k less
+  | inr le ↦ let e : k ≡ n = omega arith in subst (λ (j : ℕ). has_bit (bits_of p n + cond (p n) (2 ^ n) 0) j ≡ p j) (sym e) (top_bit (bits_of p n) n (p n) (bits_small p n))
+]
+  where
+    low : (b : Bool) → k < n → has_bit (bits_of p n + cond b (2 ^ n) 0) k ≡ has_bit (bits_of p n) k
+    low true less = low_bit (bits_of p n) n k less
+    low false less = let e : bits_of p n + 0 ≡ bits_of p n = omega arith in ap (λ (j : ℕ). has_bit j k) e
+
+pub shifted : (t : ℕ) → t < 64 → 1 * 2 ^ t % 2 ^ 64 ≡ 2 ^ t
+shifted t lt = let e : 1 * 2 ^ t ≡ 2 ^ t = omega arith in ap (λ (n : ℕ). n % 2 ^ 64) e ∙ mod-eq_of_lt (pow-lt lt)
+
+pub bits_fit : (p : ℕ → Bool) (t : ℕ) → t < 64 → bits_of p t + 2 ^ t < 2 ^ 64
+bits_fit p t lt =
+    let le : 2 ^ suc t ≤ 2 ^ 64 = pow-le-pow_right {n = 2} (omega arith) {i = suc t} {j = 64} (omega arith) in
+    omega (arith, le, bits_small p t, pow-suc 2 t)
+
+pub bits_yes : (p : ℕ → Bool) (t bits next : ℕ) → t < 64 → bits ≡ bits_of p t → p t ≡ true → next ≡ bits + 1 * 2 ^ t % 2 ^ 64 → next ≡ bits_of p (t + 1)
+bits_yes p t bits next lt e there f =
+    let more : bits_of p (t + 1) ≡ bits_of p t + 2 ^ t = bits_more p t ∙ ap (λ (b : Bool). bits_of p t + cond b (2 ^ t) 0) there in
+    f ∙ ap (λ (n : ℕ). bits + n) (shifted t lt) ∙ ap (λ (n : ℕ). n + 2 ^ t) e ∙ sym more
+
+pub bits_no : (p : ℕ → Bool) (t bits next : ℕ) → bits ≡ bits_of p t → p t ≡ false → next ≡ bits → next ≡ bits_of p (t + 1)
+bits_no p t bits next e none f =
+    let more : bits_of p (t + 1) ≡ bits_of p t + 0 = bits_more p t ∙ ap (λ (b : Bool). bits_of p t + cond b (2 ^ t) 0) none in
+    omega (arith, e, f, more)
+
+-- ---- tests of all
+
+pub all_below : (xs : List ℕ) (n : ℕ) → ((k : ℕ) → get_or xs k 0 < n) → list_all (λ (x : ℕ). ltb x n) xs ≡ true
+all_below [] n h = refl
+all_below (x ∷ xs) n h = ap (λ (b : Bool). b && list_all (λ (y : ℕ). ltb y n) xs) (lt-ltb x n (h 0)) ∙ all_below xs n (λ k. h (suc k))
+
+pub all_at : (p : ℕ → Bool) (xs : List ℕ) (k : ℕ) → list_all p xs ≡ true → k < length xs → p (get_or xs k 0) ≡ true
+all_at p xs k all lt = elim (cases_Bool (p (get_or xs k 0))) [
+  | inl e ↦ e
+  | inr e ↦ absurd (apart (sym all ∙ list_all_at p xs k 0 lt e))
+]
+  where
+    apart : true ≡ false → ⊥
+    apart e = cc
+
+pub all_range : (p : ℕ → Bool) (n k : ℕ) → list_all p (range_with_len 0 n) ≡ true → k < n → p k ≡ true
+all_range p n k all lt =
+    let here : get_or (range_with_len 0 n) k 0 ≡ k = get_or-range_with_len 0 n k 0 lt ∙ omega arith in
+    ap p (sym here) ∙ all_at p (range_with_len 0 n) k all (omega (arith, lt, length-range_with_len 0 n))
