@@ -2,3 +2,4 @@ pub mod SizeLaws
 pub mod HeaderLaws
 pub mod SampleLaws
 pub mod BlankLaws
+pub mod FinishLaws

@@ -187,8 +187,13 @@ whole code metadata entry len e small fits =
     let t = c ++ (code ++ (metadata ++ (z ++ w))) in
     record {
       known = record {
-        size = size_of_all code metadata entry len e; small = small; stands_at = stands_there len entry t; fields_are = fields len entry t;
-        text_is = text len entry t small; resource_is = resource len entry t small; relocation_is = relocation len entry t small
+        size = size_of_all code metadata entry len e;
+        small = small;
+        stands_at = stands_there len entry t;
+        fields_are = fields len entry t;
+        text_is = text len entry t small;
+        resource_is = resource len entry t small;
+        relocation_is = relocation len entry t small;
       };
       cli = cli_fields len entry (length code) (length metadata) (code ++ (metadata ++ (z ++ w))) (omega arith) (omega arith) fits;
       code_there = λ at n le. ap (λ (k : ℕ). part (h ++ t) k n) (omega arith) ∙ third h c code metadata z w at n le;

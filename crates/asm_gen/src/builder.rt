@@ -1,5 +1,5 @@
 // An assembly that is made row by row.
-ghost use Rattle.std.specs.Prelude.{◌≡◌, ◌+◌, ◌-◌, ◌%◌, ◌<◌, ◌≤◌, ◌^◌, ◌++◌, ℕ, false, length, Ok, Some, IfOk, OnOk, OnErr};
+ghost use Rattle.std.specs.Prelude.{◌≡◌, ◌+◌, ◌-◌, ◌%◌, ◌<◌, ◌≤◌, ◌^◌, ◌++◌, ◌⊎◌, ℕ, true, false, length, Ok, Some, IfOk, OnOk, OnErr};
 ghost use Rattle.std.specs.List.{list_any};
 ghost use Rattle.cil_base.specs.Refusals.{OnRefused};
 ghost use Rattle.cil_base.specs.Tokens.{token_number};
@@ -10,12 +10,14 @@ ghost use Rattle.cli_tables.specs.Tables.{rows_of, IsRow, IsAppended};
 ghost use Rattle.cli_tables.specs.Growth.{table_full};
 ghost use Rattle.pe_image.specs.Growth.{too_long};
 ghost use Rattle.asm_gen.specs.Layout.{code_address};
-ghost use Rattle.asm_gen.specs.Samples.{blank_sample, filled};
+ghost use Rattle.cli_tables.specs.Written.{sizes_to, indexes_fit};
+ghost use Rattle.asm_gen.specs.Blank.{blank};
+ghost use Rattle.asm_gen.specs.Samples.{blank_sample, filled, HoldsRows, IsAssembly, PassesLimit, IsTooLong};
 
 use crate::blank::blank_heaps;
-use crate::image::{CODE_ADDRESS, SIZE_LIMIT, too_long};
+use crate::image::{CODE_ADDRESS, SIZE_LIMIT, image, too_long};
 use crate::numbers::push_zeros;
-use cil_base::{Fault, Token};
+use cil_base::{Bytes, Fault, Token};
 use cli_heaps::HeapBuilder;
 use cli_tables::Tables;
 use std::alloc::{AllocError, Global};
@@ -34,13 +36,15 @@ pub struct Builder {
 impl Model for Builder {
     ghost use Rattle.std.specs.Prelude.{◌≡◌, ◌%◌, ◌≤◌, ◌^◌, length};
     ghost use Rattle.cli_tables.specs.Tables.{IsShaped};
-    ghost use Rattle.asm_gen.specs.Samples.{Sample, GrewFromBlank};
+    ghost use Rattle.cli_heaps.specs.Written.{GrewFrom};
+    ghost use Rattle.asm_gen.specs.Blank.{blank};
+    ghost use Rattle.asm_gen.specs.Samples.{Sample};
 
     ghost Value = { Sample };
 
     ghost view = { λ b. record { tables = b.tables; heaps = b.heaps; code = b.code.items; entry = b.entry } };
 
-    ghost invariant = { λ b. GrewFromBlank b.heaps × (length b.code.items ≤ 2 ^ 27) × (length b.code.items % 4 ≡ 0) };
+    ghost invariant = { λ b. GrewFrom blank b.heaps × (length b.code.items ≤ 2 ^ 27) × (length b.code.items % 4 ≡ 0) };
 }
 
 /// The code with zeros up to a multiple of 4.
@@ -141,5 +145,34 @@ impl Builder {
         ensures { self.new ≡ record self.old { entry = token_number method } }
     {
         self.entry = method.to_u32();
+    }
+
+    /// Whether each index of the rows fits the width that its column has in the finished assembly.
+    pub fn fits(&self) -> bool
+        ensures { result ≡ indexes_fit (sizes_to blank self.now.heaps self.now.tables) self.now.tables }
+    {
+        self.tables.fits(&blank_heaps(), &self.heaps)
+    }
+
+    /// The metadata of the rows and the heaps.
+    fn metadata(&self, alloc: Global) -> Result<Bytes, Fault>
+        requires { indexes_fit (sizes_to blank self.now.heaps self.now.tables) self.now.tables ≡ true }
+        ensures ok { IfOk result (HoldsRows self.now) }
+        ensures refused { OnRefused result (PassesLimit self.now) }
+    {
+        self.tables.write(alloc, &blank_heaps(), &self.heaps)
+    }
+
+    /// The image of the assembly. L5 where a table, a heap or the number of streams passes its
+    /// limit, L6 where the image would have over 128 MiB.
+    pub fn finish(self, alloc: Global) -> Result<Bytes, Fault>
+        requires { indexes_fit (sizes_to blank self.heaps self.tables) self.tables ≡ true }
+        ensures ok { IfOk result (IsAssembly self) }
+        ensures refused { OnRefused result (λ r. PassesLimit self r ⊎ IsTooLong self r) }
+    {
+        match self.metadata(alloc) {
+            Ok(metadata) => image(alloc, &self.code, metadata.as_slice(), self.entry),
+            Err(fault) => Err(fault),
+        }
     }
 }

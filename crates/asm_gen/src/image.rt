@@ -5,6 +5,7 @@ ghost use Rattle.cil_base.specs.Refusals.{OnRefused};
 ghost use Rattle.pe_image.specs.Growth.{too_long};
 ghost use Rattle.asm_gen.specs.Layout.{sizes_of, text_size, text_raw, resource_address, relocation_address, image_size, resource_at, relocation_at, file_size, dos_header, coff_header, characteristics, standard_fields, image_fields, directories, section_header, text_header, resource_header, relocation_header, optional_header, section_table, headers, cli_header, image};
 ghost use Rattle.pe_image.specs.Written.{zeros, two_bytes, four_bytes};
+ghost use Rattle.asm_gen.specs.Reading.{IsImageOf};
 
 use crate::numbers::{four_bytes, push_all, push_zeros, two_bytes};
 use cil_base::{Bytes, Fault, Refusal, Rule};
@@ -288,9 +289,7 @@ fn push_cli_header(
 }
 
 #[tactic(auto, unfolding(crate::specs::Layout::image))]
-/// An image with the code and the metadata, and the token of its entry point, or 0. L6 where it has
-/// over 128 MiB.
-pub fn image(alloc: Global, code: &[u8], metadata: &[u8], entry: u32) -> Result<Bytes, Fault>
+fn image_bytes(alloc: Global, code: &[u8], metadata: &[u8], entry: u32) -> Result<Bytes, Fault>
     ensures ok { IfOk result (λ b. b ≡ image code.now metadata.now entry) }
     ensures short { OnOk result (file_size (length code.now + length metadata.now) ≤ 2 ^ 27) }
     ensures refused { OnRefused result (λ r. (r ≡ too_long) × (2 ^ 27 < file_size (length code.now + length metadata.now))) }
@@ -307,4 +306,13 @@ pub fn image(alloc: Global, code: &[u8], metadata: &[u8], entry: u32) -> Result<
     push_zeros(&mut out, (sizes.text_raw - sizes.text_size) as usize)?;
     push_zeros(&mut out, 0x400)?;
     Ok(Items::from_vec(out))
+}
+
+/// An image with the code and the metadata, and the token of its entry point, or 0. L6 where it has
+/// over 128 MiB.
+pub fn image(alloc: Global, code: &[u8], metadata: &[u8], entry: u32) -> Result<Bytes, Fault>
+    ensures reads { IfOk result (IsImageOf code.now metadata.now entry) }
+    ensures refused { OnRefused result (λ r. (r ≡ too_long) × (2 ^ 27 < file_size (length code.now + length metadata.now))) }
+{
+    image_bytes(alloc, code, metadata, entry)
 }
