@@ -6,7 +6,7 @@ ghost use Rattle.cli_heaps.specs.Growth.{Growths};
 ghost use Rattle.cli_tables.specs.TableRules.{HeaderBroken, RowsBroken};
 ghost use Rattle.lane_cols.specs.Places.{places};
 ghost use Rattle.cli_tables.specs.Schema.{columns_of};
-ghost use Rattle.cli_tables.specs.Tables.{column_of, rows_of, cell_of, HasCell, IsShaped, AreIn, IsRow, IsAppended, IsSet, fits_column, rows_with};
+ghost use Rattle.cli_tables.specs.Tables.{column_of, rows_of, cell_of, HasCell, IsShaped, AreIn, IsRow, IsAppended, IsSet, fits_column, rows_with, blank_tables};
 ghost use Rattle.cli_tables.specs.Stream.{kind_of};
 ghost use Rattle.cli_tables.specs.Layout.{tables_in};
 ghost use Rattle.cli_tables.specs.Growth.{table_full};
@@ -14,7 +14,7 @@ ghost use Rattle.cli_tables.specs.Written.{counts_to, is_many, sizes_to, stream_
 ghost use Rattle.cli_heaps.specs.Written.{filled, parts, written, GrewFrom, IsWritten, EntriesRead, limit_tests};
 
 use crate::header::first_in_header;
-use crate::reading::read_tables;
+use crate::reading::{blank_tables, read_tables};
 use crate::schema::{TABLE_COUNT, columns};
 use crate::sizes::{Sizes, read_sizes, rows_start_of};
 use crate::table::Table;
@@ -67,6 +67,16 @@ impl Tables {
             Ok(tables) => Ok(Tables { tables }),
             Err(fault) => Err(fault),
         }
+    }
+
+    /// Tables without rows, to be appended to.
+    pub fn blank(alloc: Global) -> Result<Tables, AllocError>
+        ensures blank { IfOk result (λ t. t ≡ blank_tables) }
+        ensures rows { (table : ℕ) → IfOk result (λ t. rows_of t table ≡ 0) }
+    {
+        Ok(Tables {
+            tables: blank_tables(alloc)?,
+        })
     }
 
     /// How many rows a table has; none where it is not read.
