@@ -7,3 +7,6 @@ mod image;
 mod numbers;
 
 pub use builder::Builder;
+
+#[cfg(test)]
+mod tests;
