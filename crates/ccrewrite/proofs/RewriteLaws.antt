@@ -15,7 +15,9 @@ use Rattle.pe_image.specs.Growth.{growth_in, growth_of, grown_len, has_room, roo
 use Rattle.pe_image.specs.Written.{grown_of, grown_by, grown, grown_cli, KeepsBytes}
 use Rattle.pe_image.specs.ReadBack.{new_rva, Grows}
 use Rattle.pe_image.specs.Rules as image
+use Rattle.pe_image.specs.Images.{File}
 use Rattle.cli_heaps.specs.Root as root
+use Rattle.cli_heaps.specs.Root.{Metadata}
 use Rattle.cli_heaps.specs.RootRules as heaps
 use Rattle.cli_heaps.specs.Written.{parts, written, limit_tests, IsWritten}
 use Rattle.cli_tables.specs.Layout.{tables_in}
@@ -87,6 +89,16 @@ short_metadata bytes =
     short_option (λ s. part bytes (place_in s (cli_of bytes).metadata_rva) (cli_of bytes).metadata_len) (length bytes)
     (section_of bytes (headers_of bytes) (cli_of bytes).metadata_rva (cli_of bytes).metadata_len)
     (λ s. short_part bytes (place_in s (cli_of bytes).metadata_rva) (cli_of bytes).metadata_len)
+
+pub metadata_read : (bytes raw : List ℕ) (i : File) (h : Metadata) → i ≡ record { bytes = bytes; assembly = 0 } → raw ≡ metadata_of i.bytes → h ≡ record { bytes = raw; assembly = 0 } → h.bytes ≡ metadata_of bytes
+metadata_read bytes raw i h f e g = ap (λ (x : Metadata). x.bytes) g ∙ e ∙ ap (λ (x : File). metadata_of x.bytes) f
+
+pub root_read : (raw : List ℕ) (h : Metadata) → h ≡ record { bytes = raw; assembly = 0 } → NoneBroken (heaps.Broken raw 0) → NoneBroken (heaps.Broken h.bytes 0)
+root_read raw h g none = subst (λ (x : List ℕ). NoneBroken (heaps.Broken x 0)) (sym (ap (λ (x : Metadata). x.bytes) g)) none
+
+-- what is said of the image and of the slice is said of their bytes
+pub of_bytes : (P : List ℕ → ℕ → List ℕ → Type 0) (bytes slice m : List ℕ) (i : File) → i ≡ record { bytes = bytes; assembly = 0 } → slice ≡ m → P i.bytes i.assembly slice → P bytes 0 m
+of_bytes P bytes slice m i f s h = subst (λ (x : List ℕ). P bytes 0 x) s (subst (λ (x : File). P x.bytes x.assembly slice) f h)
 
 -- one Module and one Assembly row, where the header breaks no rule
 pub one_each : (meta : List ℕ) (ts : List (List (List ℕ))) (a : ℕ) → AreIn (root.tables meta) ts → NoneBroken (HeaderBroken meta a) → AreOfOne ts
