@@ -2,4 +2,5 @@ pub mod Same
 pub mod CallLaws
 pub mod Accepted
 pub mod AnswerLaws
-pub mod Commands
+pub mod OptionLaws
+pub mod WordLaws

@@ -1,6 +1,7 @@
 //! Rewrites Code Contracts in compiled code into run-time checks.
 #![tactic(auto)]
 
+mod options;
 mod program;
 mod rewrite;
 mod splice;
