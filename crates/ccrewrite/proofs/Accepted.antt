@@ -1,14 +1,12 @@
 -- The rules on the one body that the bytes stand for are rules on the bytes.
-use Rattle.std.proofs.Common.{◌≡◌, ℕ, List, ap, sym, ◌∙◌, subst, inl, inr, get_or}
+use Rattle.std.proofs.Common.{◌≡◌, ℕ, List, ap, sym, ◌∙◌, subst, inl, inr, get_or, take, false}
 use Rattle.cil_base.specs.declared.refusal.Refusal.{Refusal}
-use Rattle.cil_base.specs.Refusals.{First, NoneBroken, InTurn}
-use Rattle.cil_model.specs.declared.body.Body.{Body}
-use Rattle.cil_model.specs.SmallCode.{SmallBodyOf, HeaderBreaks, CodeBreaks}
-use Rattle.ccrewrite.specs.Splice.{CallBreaks, HeightBreaks, SecondBreaks, CallsAt, first_call, is_one, height}
-use Rattle.ccrewrite.specs.Program.{ContractBreaks, IsBodyRefusal, body_place}
-use Rattle.std.proofs.Common.{take, false}
 use Rattle.cil_base.specs.declared.rule.Rule.TheVariants.{C1, C2}
-use Rattle.cil_base.specs.Refusals.{refusal}
+use Rattle.cil_base.specs.Refusals.{First, NoneBroken, refusal}
+use Rattle.cil_model.specs.declared.body.Body.{Body}
+use Rattle.cil_model.specs.SmallCode.{SmallBodyOf}
+use Rattle.ccrewrite.specs.Splice.{CallBreaks, HeightBreaks, SecondBreaks, CallsAt, first_call, is_one, height}
+use Rattle.ccrewrite.specs.Program.{ContractBreaks, body_place}
 
 -- The calls of bodies with equal instructions and offsets break the same rules.
 same_breaks : (b c : Body) (r : Refusal) → b.instrs ≡ c.instrs → b.offsets ≡ c.offsets → CallBreaks body_place b r → CallBreaks body_place c r
@@ -28,8 +26,3 @@ first_of_bytes bytes body r reads once f = record {
   broken = (body, reads, f.broken);
   none_before = λ s x. let same = once x.0 x.1 in f.none_before s (same_breaks x.0 body s same.0 same.1 x.2);
 }
-
--- What the reader of bodies refuses is refused.
-pub to_layers : (bytes : List ℕ) (r : Refusal) → InTurn (HeaderBreaks body_place bytes) (First (CodeBreaks body_place bytes)) r → IsBodyRefusal bytes r
-to_layers bytes r (inl f) = inl f
-to_layers bytes r (inr x) = inr (x.0, inl x.1)

@@ -1,18 +1,27 @@
 -- The answers of a command, put together from its steps.
-use Rattle.std.proofs.Common.{◌≡◌, ◌≢◌, ◌⊎◌, ℕ, ◌+◌, ◌<◌, ◌≤◌, List, ◌++◌, length, take, Bool, true, false, Option, Some, None, Result, Ok, Err, IsTrue, IfOk, IsOkAnd, string_bytes, refl, sym, ap, ◌∙◌, subst, inl, inr, arith}
+use Rattle.std.proofs.Common.{◌≡◌, ◌≢◌, ◌⊎◌, ℕ, ◌+◌, ◌<◌, ◌≤◌, List, [], ◌∷◌, ◌++◌, length, take, Bool, true, false, Option, Some, None, Result, Ok, Err, IsTrue, IfOk, IsOkAnd, string_bytes, refl, sym, ap, ◌∙◌, subst, inl, inr, arith}
 use Rattle.std.specs.declared.alloc.AllocError.{AllocError}
 use Rattle.cil_base.specs.Causes.{Rose}
 use Rattle.cil_base.specs.declared.refusal.Refusal.{Refusal}
 use Rattle.cil_base.specs.Refusals.{First, NoneBroken, InTurn, key, is_less}
 use Rattle.cil_base.proofs.RefusalLaws.{less_refl}
-use Rattle.cil_base.proofs.OrderLaws.{first_is_one, turn_is_one}
+use Rattle.cil_base.proofs.OrderLaws.{first_is_one}
+use Rattle.cil_base.specs.declared.rule.Rule.TheVariants.{L5}
 use Rattle.cil_model.specs.SmallCode.{HeaderBreaks, CodeBreaks}
 use Rattle.outside_core.specs.Store.{Files, SameFiles}
 use Rattle.ccrewrite.specs.declared.program.Reply.{Reply}
-use Rattle.ccrewrite.specs.Text.{done_text, refusal_text, words_text, store_text, memory_text}
-use Rattle.ccrewrite.specs.Words.{wrong_word, IsBodyCommand}
+use Rattle.ccrewrite.specs.Text.{refusal_text, words_text, store_text, memory_text}
+use Rattle.ccrewrite.specs.declared.words.Command.{Command}
+use Rattle.ccrewrite.specs.declared.words.Command.TheVariants as commands
+use Rattle.ccrewrite.specs.Words.{wrong_word, IsCommand}
+use Rattle.ccrewrite.specs.Options.{positionals}
 use Rattle.ccrewrite.specs.Replies.{Replied}
-use Rattle.ccrewrite.specs.Program.{IsRewriting, SizeBreaks, IsRefusal, IsBodyRefusal, KeepsBodyRules, IsAccepted, PutsFile, IsDone, IsRefused, StoreFailed, FromBytes, BodyAnswer, WrongAnswer, Answer, Puts, Expected, ContractBreaks, body_place, size_limit, too_long}
+use Rattle.ccrewrite.specs.Rewrite.{PassesLimit, HasNoRoom, HasContracts, AnyThen}
+use Rattle.pe_image.specs.Rules as image
+use Rattle.pe_image.specs.Cli.{metadata_of}
+use Rattle.cli_heaps.specs.RootRules as heaps
+use Rattle.cli_tables.specs.TableRules.{HeaderBroken, RowsBroken}
+use Rattle.ccrewrite.specs.Program.{IsRewriting, SizeBreaks, IsMade, IsRefusal, IsInnerRefusal, IsBodyRefusal, IsEither, KeepsInnerRules, IsAccepted, PutsFile, IsDone, IsRefused, StoreFailed, FromBytes, FileAnswer, WrongAnswer, Answer, Puts, Expected, ContractBreaks, body_place, size_limit, too_long}
 
 -- What is known of a reply, and of want of memory.
 pub replied_by : (P : ℕ → List ℕ → Type 0) (result : Result Reply AllocError) → IfOk result (λ a. P a.status (string_bytes a.text)) → P 5 memory_text → Replied P result
@@ -29,8 +38,8 @@ ok_and (Err e) P Q f h = h
 
 -- ---- from the bytes
 
-pub no_memory : (tells : Bool) (old new : Files) (before now : ℕ) (bytes output : List ℕ) → (IsTrue tells → SameFiles old new) → FromBytes tells old new before now bytes output 5 memory_text
-no_memory tells old new before now bytes output same = record {
+pub no_memory : (command : Command) (tells : Bool) (old new : Files) (before now : ℕ) (bytes output : List ℕ) → (IsTrue tells → SameFiles old new) → FromBytes command tells old new before now bytes output 5 memory_text
+no_memory command tells old new before now bytes output same = record {
   done = λ e. absurd cc;
   refused = λ e. absurd cc;
   failed = λ e. absurd cc;
@@ -39,8 +48,8 @@ no_memory tells old new before now bytes output same = record {
   only = inr (inr (inr refl));
 }
 
-pub bytes_refused : (tells : Bool) (old : Files) (before : ℕ) (bytes output : List ℕ) (r : Refusal) (status : ℕ) (text : List ℕ) → IsRefusal bytes r → (status ≡ 1) × (text ≡ refusal_text r) → FromBytes tells old old before before bytes output status text
-bytes_refused tells old before bytes output r status text h e = record {
+pub bytes_refused : (command : Command) (tells : Bool) (old : Files) (before : ℕ) (bytes output : List ℕ) (r : Refusal) (status : ℕ) (text : List ℕ) → IsRefusal command bytes r → (status ≡ 1) × (text ≡ refusal_text r) → FromBytes command tells old old before before bytes output status text
+bytes_refused command tells old before bytes output r status text h e = record {
   done = λ z. let c : 1 ≡ 0 = sym e.0 ∙ z in absurd cc;
   refused = λ z. (refl, (r, h, e.1));
   failed = λ z. let c : 1 ≡ 3 = sym e.0 ∙ z in absurd cc;
@@ -52,44 +61,83 @@ bytes_refused tells old before bytes output r status text h e = record {
 pub within : (bytes : List ℕ) → length bytes ≤ size_limit → NoneBroken (SizeBreaks bytes)
 within bytes h = λ r x. omega (arith, h, x.0)
 
-pub within_refused : (bytes : List ℕ) (r : Refusal) → length bytes ≤ size_limit → IsBodyRefusal bytes r → IsRefusal bytes r
-within_refused bytes r h b = inr (within bytes h, b)
+pub within_refused : (command : Command) (bytes : List ℕ) (r : Refusal) → length bytes ≤ size_limit → IsInnerRefusal command bytes r → IsRefusal command bytes r
+within_refused command bytes r h b = inr (within bytes h, b)
 
-pub too_long_refused : (bytes : List ℕ) → size_limit < length bytes → IsRefusal bytes too_long
-too_long_refused bytes h = inl (record {
+pub too_long_refused : (command : Command) (bytes : List ℕ) → size_limit < length bytes → IsRefusal command bytes too_long
+too_long_refused command bytes h = inl (record {
   broken = (h, refl);
   none_before = λ s x. subst (λ t. is_less (key t) (key too_long) ≡ false) (sym x.1) (less_refl (key too_long));
 })
 
--- A file is refused by one refusal.
-one_refusal : (bytes : List ℕ) (r s : Refusal) → IsRefusal bytes r → IsRefusal bytes s → s ≡ r
-one_refusal bytes r s h k =
-    turn_is_one (SizeBreaks bytes) (IsBodyRefusal bytes) r s (λ h k.
-    turn_is_one (HeaderBreaks body_place bytes) (InTurn (CodeBreaks body_place bytes) (First (ContractBreaks bytes))) r s (λ h k.
-    turn_is_one (CodeBreaks body_place bytes) (First (ContractBreaks bytes)) r s (λ h k. first_is_one (ContractBreaks bytes) r s h k) h k) h k) h k
+-- ---- which refusals are named
+
+-- In turn, one refusal is named, or what may be named later.
+turn_is_one_or : (Broken Later : Refusal → Type 0) (r s : Refusal) (Q : Type 0) → (Later r → Later s → (s ≡ r) ⊎ Q) → InTurn Broken Later r → InTurn Broken Later s → (s ≡ r) ⊎ Q
+turn_is_one_or Broken Later r s Q later (inl f) (inl g) = inl (first_is_one Broken r s f g)
+turn_is_one_or Broken Later r s Q later (inl f) (inr g) = absurd (g.0 r f.broken)
+turn_is_one_or Broken Later r s Q later (inr f) (inl g) = absurd (f.0 s g.broken)
+turn_is_one_or Broken Later r s Q later (inr f) (inr g) = later f.1 g.1
+
+limit_rule : (bytes : List ℕ) (r : Refusal) → PassesLimit bytes r → r.rule ≡ L5
+limit_rule bytes r (inl x) = ap (λ (t : Refusal). t.rule) x.0
+limit_rule bytes r (inr (inl x)) = ap (λ (t : Refusal). t.rule) (sym x.1)
+limit_rule bytes r (inr (inr (inl x))) = ap (λ (t : Refusal). t.rule) (sym x.1)
+limit_rule bytes r (inr (inr (inr (inl x)))) = ap (λ (t : Refusal). t.rule) (sym x.1)
+limit_rule bytes r (inr (inr (inr (inr (inl x))))) = ap (λ (t : Refusal). t.rule) (sym x.1)
+limit_rule bytes r (inr (inr (inr (inr (inr (inl x)))))) = ap (λ (t : Refusal). t.rule) (sym x.1)
+limit_rule bytes r (inr (inr (inr (inr (inr (inr x)))))) = absurd x
+
+same_error : {T : Type 0} (r s : Refusal) (x : Result T Refusal) → x ≡ Err r → x ≡ Err s → s ≡ r
+same_error r s (Ok y) e f = absurd cc
+same_error r s (Err t) e f = cc
+
+limits_or_room : (bytes : List ℕ) (r s : Refusal) → AnyThen (PassesLimit bytes) (HasNoRoom bytes) r → AnyThen (PassesLimit bytes) (HasNoRoom bytes) s → (s ≡ r) ⊎ ((s.rule ≡ L5) × (r.rule ≡ L5) × PassesLimit bytes s × PassesLimit bytes r)
+limits_or_room bytes r s (inl p) (inl q) = inr (limit_rule bytes s q, limit_rule bytes r p, q, p)
+limits_or_room bytes r s (inl p) (inr q) = absurd (q.0 r p)
+limits_or_room bytes r s (inr p) (inl q) = absurd (p.0 s q)
+limits_or_room bytes r s (inr p) (inr q) = inl (same_error r s _ p.1 q.1)
+
+-- A file is refused by one refusal, but for a second limit.
+one_refusal : (command : Command) (bytes : List ℕ) (r s : Refusal) → IsRefusal command bytes r → IsRefusal command bytes s → (s ≡ r) ⊎ IsEither command bytes s r
+one_refusal commands.Body bytes r s h k =
+    turn_is_one_or (SizeBreaks bytes) (IsBodyRefusal bytes) r s ⊥ (λ h k.
+    turn_is_one_or (HeaderBreaks body_place bytes) (InTurn (CodeBreaks body_place bytes) (First (ContractBreaks bytes))) r s ⊥ (λ h k.
+    turn_is_one_or (CodeBreaks body_place bytes) (First (ContractBreaks bytes)) r s ⊥ (λ h k. inl (first_is_one (ContractBreaks bytes) r s h k)) h k) h k) h k
+one_refusal (commands.Rewrite settings) bytes r s h k =
+    let Q = (s.rule ≡ L5) × (r.rule ≡ L5) × PassesLimit bytes s × PassesLimit bytes r in
+    let Last = AnyThen (PassesLimit bytes) (HasNoRoom bytes) in
+    let Contracts = InTurn (HasContracts bytes) Last in
+    let Rows = InTurn (RowsBroken (metadata_of bytes) 0) Contracts in
+    let Header = InTurn (HeaderBroken (metadata_of bytes) 0) Rows in
+    let Root = InTurn (heaps.Broken (metadata_of bytes) 0) Header in
+    turn_is_one_or (SizeBreaks bytes) (InTurn (image.Broken bytes 0) Root) r s Q (λ h k.
+    turn_is_one_or (image.Broken bytes 0) Root r s Q (λ h k.
+    turn_is_one_or (heaps.Broken (metadata_of bytes) 0) Header r s Q (λ h k.
+    turn_is_one_or (HeaderBroken (metadata_of bytes) 0) Rows r s Q (λ h k.
+    turn_is_one_or (RowsBroken (metadata_of bytes) 0) Contracts r s Q (λ h k.
+    turn_is_one_or (HasContracts bytes) Last r s Q (λ h k. limits_or_room bytes r s h k) h k) h k) h k) h k) h k) h k
 
 -- ---- from the read
 
--- The store told what IN holds, and its files and count are as they were.
-pub from_read : (tells tells' : Bool) (old mid new : Files) (before middle now : ℕ) (input bytes output : List ℕ) (status : ℕ) (text : List ℕ) → tells' ≡ tells → SameFiles old mid → middle ≡ before → (IsTrue tells → old input ≡ Some bytes) → FromBytes tells' mid new middle now bytes output status text → BodyAnswer tells old new before now input output status text
-from_read tells tells' old mid new before middle now input bytes output status text t same m told f = record {
+-- The store told what the input holds, and its files and count are as they were.
+pub from_read : (command : Command) (tells tells' : Bool) (old mid new : Files) (before middle now : ℕ) (input bytes output : List ℕ) (status : ℕ) (text : List ℕ) → tells' ≡ tells → SameFiles old mid → middle ≡ before → (IsTrue tells → old input ≡ Some bytes) → FromBytes command tells' mid new middle now bytes output status text → FileAnswer command tells old new before now input output status text
+from_read command tells tells' old mid new before middle now input bytes output status text t same m told f = record {
   done = λ z.
       let d = f.done z in (
         d.0 ∙ m,
         λ tt'. record {
           from = bytes;
           to = d.2.0;
-          clauses = d.2.1;
           in_file = told tt';
-          out_file = record { there = (d.2.4 (t ∙ tt')).there; others = λ name n. (d.2.4 (t ∙ tt')).others name n ∙ same name };
-          rewriting = d.2.2;
+          out_file = record { there = (d.2.2 (t ∙ tt')).there; others = λ name n. (d.2.2 (t ∙ tt')).others name n ∙ same name };
+          made = d.2.1;
           accepted = d.1;
-          prints = d.2.3;
         },
       );
   refused = λ z.
       let d = f.refused z in
-      (d.0 ∙ m, λ tt'. record { from = bytes; refusal = d.1.0; in_file = told tt'; breaks = d.1.1; only = λ s h. one_refusal bytes d.1.0 s d.1.1 h; prints = d.1.2 });
+      (d.0 ∙ m, λ tt'. record { from = bytes; refusal = d.1.0; in_file = told tt'; breaks = d.1.1; only = λ s h. one_refusal command bytes d.1.0 s d.1.1 h; prints = d.1.2 });
   failed = λ z.
       let d = f.failed z in
       record { name = output; named = inr refl; cause = inl (subst (λ n. Rose n now) m d.0); prints = d.1 };
@@ -98,18 +146,18 @@ from_read tells tells' old mid new before middle now input bytes output status t
   only = f.only;
 }
 
-pub read_refused : (tells : Bool) (old new : Files) (before now : ℕ) (input output : List ℕ) (status : ℕ) (text : List ℕ) → now ≡ before → SameFiles old new → (IsTrue tells → (bytes : List ℕ) × (old input ≡ Some bytes) × (size_limit < length bytes)) → (status ≡ 1) × (text ≡ refusal_text too_long) → BodyAnswer tells old new before now input output status text
-read_refused tells old new before now input output status text same files told e = record {
+pub read_refused : (command : Command) (tells : Bool) (old new : Files) (before now : ℕ) (input output : List ℕ) (status : ℕ) (text : List ℕ) → now ≡ before → SameFiles old new → (IsTrue tells → (bytes : List ℕ) × (old input ≡ Some bytes) × (size_limit < length bytes)) → (status ≡ 1) × (text ≡ refusal_text too_long) → FileAnswer command tells old new before now input output status text
+read_refused command tells old new before now input output status text same files told e = record {
   done = λ z. let c : 1 ≡ 0 = sym e.0 ∙ z in absurd cc;
-  refused = λ z. (same, λ t. let x = told t in record { from = x.0; refusal = too_long; in_file = x.1; breaks = too_long_refused x.0 x.2; only = λ s h. one_refusal x.0 too_long s (too_long_refused x.0 x.2) h; prints = e.1 });
+  refused = λ z. (same, λ t. let x = told t in record { from = x.0; refusal = too_long; in_file = x.1; breaks = too_long_refused command x.0 x.2; only = λ s h. one_refusal command x.0 too_long s (too_long_refused command x.0 x.2) h; prints = e.1 });
   failed = λ z. let c : 1 ≡ 3 = sym e.0 ∙ z in absurd cc;
   memory = λ z. let c : 1 ≡ 5 = sym e.0 ∙ z in absurd cc;
   kept = λ n t. files;
   only = inr (inl e.0);
 }
 
-pub read_failed : (tells : Bool) (old new : Files) (before now : ℕ) (input output : List ℕ) (status : ℕ) (text : List ℕ) → SameFiles old new → Rose before now ⊎ (IsTrue tells × (old input ≡ None)) → (status ≡ 3) × (text ≡ store_text input) → BodyAnswer tells old new before now input output status text
-read_failed tells old new before now input output status text files cause e = record {
+pub read_failed : (command : Command) (tells : Bool) (old new : Files) (before now : ℕ) (input output : List ℕ) (status : ℕ) (text : List ℕ) → SameFiles old new → Rose before now ⊎ (IsTrue tells × (old input ≡ None)) → (status ≡ 3) × (text ≡ store_text input) → FileAnswer command tells old new before now input output status text
+read_failed command tells old new before now input output status text files cause e = record {
   done = λ z. let c : 3 ≡ 0 = sym e.0 ∙ z in absurd cc;
   refused = λ z. let c : 3 ≡ 1 = sym e.0 ∙ z in absurd cc;
   failed = λ z. record { name = input; named = inl refl; cause = why cause; prints = e.1 };
@@ -122,8 +170,8 @@ read_failed tells old new before now input output status text files cause e = re
     why (inl rose) = inl rose
     why (inr x) = inr (x.0, refl, x.1)
 
-pub body_memory : (tells : Bool) (old new : Files) (before now : ℕ) (input output : List ℕ) → (IsTrue tells → SameFiles old new) → BodyAnswer tells old new before now input output 5 memory_text
-body_memory tells old new before now input output same = record {
+pub file_memory : (command : Command) (tells : Bool) (old new : Files) (before now : ℕ) (input output : List ℕ) → (IsTrue tells → SameFiles old new) → FileAnswer command tells old new before now input output 5 memory_text
+file_memory command tells old new before now input output same = record {
   done = λ e. absurd cc;
   refused = λ e. absurd cc;
   failed = λ e. absurd cc;
@@ -160,54 +208,75 @@ one_of status P (inr (inl e)) a b c d = subst P (sym e) (b e)
 one_of status P (inr (inr (inl e))) a b c d = subst P (sym e) (c e)
 one_of status P (inr (inr (inr e))) a b c d = subst P (sym e) (d e)
 
-expected_memory : (o : Option (List ℕ)) → Expected o 5
-expected_memory None = inr refl
-expected_memory (Some bytes) = inr (inr refl)
+expected_memory : (command : Command) (o : Option (List ℕ)) → Expected command o 5
+expected_memory command None = inr refl
+expected_memory command (Some bytes) = inr (inr refl)
 
-body_expected : (tells : Bool) (old new : Files) (before now : ℕ) (input output : List ℕ) (status : ℕ) (text : List ℕ) → IsTrue tells → (Rose before now → ⊥) → BodyAnswer tells old new before now input output status text → Expected (old input) status
-body_expected tells old new before now input output status text t calm b =
-    one_of status (Expected (old input)) b.only
-    (λ z. let d = (b.done z).1 t in subst (λ o. Expected o 0) (sym d.in_file) (inl (refl, d.accepted)))
-    (λ z. let d = (b.refused z).1 t in subst (λ o. Expected o 1) (sym d.in_file) (inr (inl (refl, (d.refusal, d.breaks)))))
+file_expected : (command : Command) (tells : Bool) (old new : Files) (before now : ℕ) (input output : List ℕ) (status : ℕ) (text : List ℕ) → IsTrue tells → (Rose before now → ⊥) → FileAnswer command tells old new before now input output status text → Expected command (old input) status
+file_expected command tells old new before now input output status text t calm b =
+    one_of status (Expected command (old input)) b.only
+    (λ z. let d = (b.done z).1 t in subst (λ o. Expected command o 0) (sym d.in_file) (inl (refl, d.accepted)))
+    (λ z. let d = (b.refused z).1 t in subst (λ o. Expected command o 1) (sym d.in_file) (inr (inl (refl, (d.refusal, d.breaks)))))
     (λ z. missing (b.failed z).cause)
-    (λ z. expected_memory (old input))
+    (λ z. expected_memory command (old input))
   where
-    missing : {name : List ℕ} → Rose before now ⊎ (IsTrue tells × (name ≡ input) × (old input ≡ None)) → Expected (old input) 3
+    missing : {name : List ℕ} → Rose before now ⊎ (IsTrue tells × (name ≡ input) × (old input ≡ None)) → Expected command (old input) 3
     missing (inl rose) = absurd (calm rose)
-    missing (inr x) = subst (λ o. Expected o 3) (sym x.2) (inl refl)
+    missing (inr x) = subst (λ o. Expected command o 3) (sym x.2) (inl refl)
 
-same_command : (words : List (List ℕ)) (i j o p : List ℕ) → IsBodyCommand words i o → IsBodyCommand words j p → i ≡ j
-same_command words i j o p x y =
-    let e = sym x.is ∙ y.is in cc
+-- What is expected of a command's file is the same at all settings.
+expected_alike : (words : List (List ℕ)) (c d : Command) (i o j p : List ℕ) (files : Files) (status : ℕ) → IsCommand words c i o → IsCommand words d j p → Expected c (files i) status → Expected d (files j) status
+expected_alike words commands.Body commands.Body i o j p files status x y h =
+    let e = sym x.is ∙ y.is in
+    let same : i ≡ j = cc in
+    subst (λ n. Expected commands.Body (files n) status) same h
+expected_alike words commands.Body (commands.Rewrite t) i o j p files status x y h =
+    let e = sym x.is ∙ y.is in absurd cc
+expected_alike words (commands.Rewrite s) commands.Body i o j p files status x y h =
+    let e = sym x.is ∙ y.is in absurd cc
+expected_alike words (commands.Rewrite s) (commands.Rewrite t) i o j p files status x y h =
+    let e = sym x.is ∙ y.is in
+    let behind : x.behind ≡ y.behind = cc in
+    let targets : i ∷ [] ≡ j ∷ [] = sym x.target_is ∙ ap positionals behind ∙ y.target_is in
+    let same : i ≡ j = cc in
+    alike (files j) (subst (λ n. Expected (commands.Rewrite s) (files n) status) same h)
+  where
+    alike : (o : Option (List ℕ)) → Expected (commands.Rewrite s) o status → Expected (commands.Rewrite t) o status
+    alike None h = h
+    alike (Some bytes) (inl x) = inl (x.0, record { size = x.1.size; inner = x.1.inner })
+    alike (Some bytes) (inr x) = inr x
 
-pub answer_expected : (tells : Bool) (old new : Files) (before now : ℕ) (words : List (List ℕ)) (status : ℕ) (text : List ℕ) (input output : List ℕ) → IsBodyCommand words input output → IsTrue tells → (Rose before now → ⊥) → Answer tells old new before now words status text → Expected (old input) status
-answer_expected tells old new before now words status text input output command t calm (inl x) =
-    let e : Some x.0 ≡ None = sym x.1 ∙ command.right in cc
-answer_expected tells old new before now words status text input output command t calm (inr x) =
-    let e : x.0 ≡ input = same_command words x.0 input x.1 output x.2 command in
-    subst (λ i. Expected (old i) status) e (body_expected tells old new before now x.0 x.1 status text t calm x.3)
+pub answer_expected : (tells : Bool) (old new : Files) (before now : ℕ) (words : List (List ℕ)) (status : ℕ) (text : List ℕ) (command : Command) (input output : List ℕ) → IsCommand words command input output → IsTrue tells → (Rose before now → ⊥) → Answer tells old new before now words status text → Expected command (old input) status
+answer_expected tells old new before now words status text command input output is t calm (inl x) =
+    let e : Some x.0 ≡ None = sym x.1 ∙ right_words words command input output is in absurd cc
+  where
+    right_words : (words : List (List ℕ)) (command : Command) (input output : List ℕ) → IsCommand words command input output → wrong_word words ≡ None
+    right_words words commands.Body input output is = is.right
+    right_words words (commands.Rewrite settings) input output is = is.right
+answer_expected tells old new before now words status text command input output is t calm (inr x) =
+    expected_alike words x.0 command x.1 x.2 input output old status x.3 is (file_expected x.0 tells old new before now x.1 x.2 status text t calm x.4)
 
-pub put_expected : (tells : Bool) (old new : List ℕ) (before now : ℕ) (room : Option ℕ) (text : List ℕ) (status result : ℕ) (o : Option (List ℕ)) → (Rose before now → ⊥) → Puts tells old new before now room text status result → Expected o status → Expected o result
-put_expected tells old new before now room text status result o calm puts h =
-    subst (Expected o) (sym (puts.whole (λ four. calm (puts.cut four).0)).0) h
+pub put_expected : (tells : Bool) (old new : List ℕ) (before now : ℕ) (room : Option ℕ) (text : List ℕ) (status result : ℕ) (command : Command) (o : Option (List ℕ)) → (Rose before now → ⊥) → Puts tells old new before now room text status result → Expected command o status → Expected command o result
+put_expected tells old new before now room text status result command o calm puts h =
+    subst (Expected command o) (sym (puts.whole (λ four. calm (puts.cut four).0)).0) h
 
 -- ---- the write
 
 -- What the write answers is what becomes of the bytes.
-pub from_written : (tells : Bool) (old new : Files) (before now : ℕ) (bytes output to : List ℕ) (clauses : ℕ) (result : Result Reply AllocError)
-    → length bytes ≤ size_limit → IsRewriting bytes to clauses → KeepsBodyRules bytes
-    → IfOk result (λ a. a.status ≡ 0 → (string_bytes a.text ≡ done_text clauses) × (now ≡ before) × (IsTrue tells → PutsFile old new output to))
+pub from_written : (command : Command) (tells : Bool) (old new : Files) (before now : ℕ) (bytes output to made : List ℕ) (result : Result Reply AllocError)
+    → length bytes ≤ size_limit → IsMade command bytes to made → KeepsInnerRules command bytes
+    → IfOk result (λ a. a.status ≡ 0 → (string_bytes a.text ≡ made) × (now ≡ before) × (IsTrue tells → PutsFile old new output to))
     → IfOk result (λ a. a.status ≡ 3 → (string_bytes a.text ≡ store_text output) × Rose before now)
     → IsOkAnd result (λ a. a.status ≡ 0) ⊎ (IsTrue tells → SameFiles old new)
     → IfOk result (λ a. (a.status ≡ 0) ⊎ (a.status ≡ 3))
-    → Replied (FromBytes tells old new before now bytes output) result
-from_written tells old new before now bytes output to clauses (Err e) fits rewriting keeps done failed kept only = no_memory tells old new before now bytes output (same_files kept)
+    → Replied (FromBytes command tells old new before now bytes output) result
+from_written command tells old new before now bytes output to made (Err e) fits is keeps done failed kept only = no_memory command tells old new before now bytes output (same_files kept)
   where
     same_files : ⊥ ⊎ (IsTrue tells → SameFiles old new) → IsTrue tells → SameFiles old new
     same_files (inl x) = absurd x
     same_files (inr s) = s
-from_written tells old new before now bytes output to clauses (Ok a) fits rewriting keeps done failed kept only = record {
-  done = λ z. let d = done z in (d.1, record { size = within bytes fits; body = keeps }, (to, clauses, rewriting, d.0, d.2));
+from_written command tells old new before now bytes output to made (Ok a) fits is keeps done failed kept only = record {
+  done = λ z. let d = done z in (d.1, record { size = within bytes fits; inner = keeps }, (to, subst (IsMade command bytes to) (sym d.0) is, d.2));
   refused = λ z. absurd (neither 1 z (λ p. cc) (λ p. cc) only);
   failed = λ z. let f = failed z in (f.1, f.0);
   memory = λ z. absurd (neither 5 z (λ p. cc) (λ p. cc) only);

@@ -2,6 +2,7 @@ pub mod Same
 pub mod CallLaws
 pub mod Accepted
 pub mod AnswerLaws
-pub mod Commands
 pub mod ContractLaws
 pub mod RewriteLaws
+pub mod OptionLaws
+pub mod WordLaws

@@ -2,7 +2,7 @@
 use Rattle.std.specs.Prelude.{◌≡◌, ◌≢◌, ◌⊎◌, ℕ, ◌*◌, ◌^◌, ◌<◌, ◌≤◌, Bool, List, [], ◌∷◌, ◌++◌, length, take, Option, Some, None, IsTrue, IsSome}
 use Rattle.cil_base.specs.Causes.{Rose}
 use Rattle.cil_base.specs.Refusals.{First, NoneBroken, InTurn}
-use Rattle.cil_base.specs.declared.rule.Rule.TheVariants.{L1}
+use Rattle.cil_base.specs.declared.rule.Rule.TheVariants.{L1, L5}
 use Rattle.cil_base.specs.declared.refusal.Place.{Place}
 use Rattle.cil_base.specs.declared.refusal.Refusal.{Refusal}
 use Rattle.cil_model.specs.declared.body.Body.{Body}
@@ -10,8 +10,11 @@ use Rattle.cil_model.specs.SmallMeaning.{SameBody}
 use Rattle.cil_model.specs.SmallCode.{BodyOf, SmallBodyOf, HeaderBreaks, CodeBreaks}
 use Rattle.outside_core.specs.Store.{Files, SameFiles}
 use Rattle.ccrewrite.specs.Splice.{CallBreaks, clause_count, first_call}
-use Rattle.ccrewrite.specs.Text.{done_text, refusal_text, words_text, store_text, memory_text}
-use Rattle.ccrewrite.specs.Words.{wrong_word, IsBodyCommand}
+use Rattle.ccrewrite.specs.Text.{done_text, rewrite_text, refusal_text, words_text, store_text, memory_text}
+use Rattle.ccrewrite.specs.declared.words.Command.{Command}
+use Rattle.ccrewrite.specs.declared.words.Command.TheVariants as commands
+use Rattle.ccrewrite.specs.Words.{wrong_word, IsCommand}
+use Rattle.ccrewrite.specs.Rewrite.{KeepsRows, IsAssemblyRefusal, KeepsAssemblyRules, PassesLimit}
 
 -- ---- what `body` makes of a file
 
@@ -46,67 +49,86 @@ ContractBreaks bytes r = (body : Body) × SmallBodyOf 0 bytes body × CallBreaks
 abbrev pub IsBodyRefusal : List ℕ → Refusal → Type 0
 IsBodyRefusal bytes = InTurn (HeaderBreaks body_place bytes) (InTurn (CodeBreaks body_place bytes) (First (ContractBreaks bytes)))
 
--- The file is refused by this: the first broken rule.
-abbrev pub IsRefusal : List ℕ → Refusal → Type 0
-IsRefusal bytes = InTurn (SizeBreaks bytes) (IsBodyRefusal bytes)
-
 pub record KeepsBodyRules (bytes : List ℕ) : Type 0 where
   pub header : NoneBroken (HeaderBreaks body_place bytes)
   pub code : NoneBroken (CodeBreaks body_place bytes)
   pub contracts : NoneBroken (ContractBreaks bytes)
 
--- No rule is broken.
-pub record IsAccepted (bytes : List ℕ) : Type 0 where
-  pub size : NoneBroken (SizeBreaks bytes)
-  pub body : KeepsBodyRules bytes
+-- ---- what a command makes of a file
 
--- ---- the statuses of `body`
+-- The new bytes are what the command makes of the old ones, and the text says so.
+abbrev pub IsMade : Command → List ℕ → List ℕ → List ℕ → Type 0
+IsMade commands.Body old new text = (clauses : ℕ) × IsRewriting old new clauses × (text ≡ done_text clauses)
+IsMade (commands.Rewrite settings) old new text = KeepsRows old new × (text ≡ rewrite_text 1 0 0)
+
+-- the rules on what is in a file within the limit
+abbrev pub IsInnerRefusal : Command → List ℕ → Refusal → Type 0
+IsInnerRefusal commands.Body bytes = IsBodyRefusal bytes
+IsInnerRefusal (commands.Rewrite settings) bytes = IsAssemblyRefusal bytes
+
+-- The file is refused by this: the first broken rule.
+abbrev pub IsRefusal : Command → List ℕ → Refusal → Type 0
+IsRefusal command bytes = InTurn (SizeBreaks bytes) (IsInnerRefusal command bytes)
+
+-- Either of the two may be named: they are limits of what is written.
+abbrev pub IsEither : Command → List ℕ → Refusal → Refusal → Type 0
+IsEither commands.Body bytes r s = ⊥
+IsEither (commands.Rewrite settings) bytes r s = (r.rule ≡ L5) × (s.rule ≡ L5) × PassesLimit bytes r × PassesLimit bytes s
+
+abbrev pub KeepsInnerRules : Command → List ℕ → Type 0
+KeepsInnerRules commands.Body bytes = KeepsBodyRules bytes
+KeepsInnerRules (commands.Rewrite settings) bytes = KeepsAssemblyRules bytes
+
+-- No rule is broken.
+pub record IsAccepted (command : Command) (bytes : List ℕ) : Type 0 where
+  pub size : NoneBroken (SizeBreaks bytes)
+  pub inner : KeepsInnerRules command bytes
+
+-- ---- the statuses of a command
 
 -- The bytes stand under the name, and the other names hold what they held.
 pub record PutsFile (old new : Files) (output bytes : List ℕ) : Type 0 where
   pub there : new output ≡ Some bytes
   pub others : (name : List ℕ) → name ≢ output → new name ≡ old name
 
--- OUT holds the rewriting of what IN held, and the other names what they held.
-pub record IsDone (old new : Files) (text input output : List ℕ) : Type 0 where
+-- The output holds what the command makes of what the input held, and the other names what they held.
+pub record IsDone (command : Command) (old new : Files) (text input output : List ℕ) : Type 0 where
   pub from : List ℕ
   pub to : List ℕ
-  pub clauses : ℕ
   pub in_file : old input ≡ Some from
   pub out_file : PutsFile old new output to
-  pub rewriting : IsRewriting from to clauses
-  pub accepted : IsAccepted from
-  pub prints : text ≡ done_text clauses
+  pub made : IsMade command from to text
+  pub accepted : IsAccepted command from
 
--- IN breaks a rule, and this is the refusal, the only one.
-pub record IsRefused (old : Files) (text input : List ℕ) : Type 0 where
+-- The input breaks a rule, and this is the refusal, the only one but for a second limit.
+pub record IsRefused (command : Command) (old : Files) (text input : List ℕ) : Type 0 where
   pub from : List ℕ
   pub refusal : Refusal
   pub in_file : old input ≡ Some from
-  pub breaks : IsRefusal from refusal
-  pub only : (other : Refusal) → IsRefusal from other → other ≡ refusal
+  pub breaks : IsRefusal command from refusal
+  pub only : (other : Refusal) → IsRefusal command from other → (other ≡ refusal) ⊎ IsEither command from other refusal
   pub prints : text ≡ refusal_text refusal
 
--- A file of the words can't be read or written: the count rose, or IN is missing.
+-- A file of the words can't be read or written: the count rose, or the input is missing.
 pub record StoreFailed (tells : Bool) (old : Files) (before now : ℕ) (text input output : List ℕ) : Type 0 where
   pub name : List ℕ
   pub named : (name ≡ input) ⊎ (name ≡ output)
   pub cause : Rose before now ⊎ (IsTrue tells × (name ≡ input) × (old input ≡ None))
   pub prints : text ≡ store_text name
 
--- What becomes of bytes that were read from IN: of OUT, by the status.
-pub record FromBytes (tells : Bool) (old new : Files) (before now : ℕ) (bytes output : List ℕ) (status : ℕ) (text : List ℕ) : Type 0 where
-  pub done : status ≡ 0 → (now ≡ before) × IsAccepted bytes × ((to : List ℕ) × (clauses : ℕ) × IsRewriting bytes to clauses × (text ≡ done_text clauses) × (IsTrue tells → PutsFile old new output to))
-  pub refused : status ≡ 1 → (now ≡ before) × ((r : Refusal) × IsRefusal bytes r × (text ≡ refusal_text r))
+-- What becomes of bytes that were read: of the output, by the status.
+pub record FromBytes (command : Command) (tells : Bool) (old new : Files) (before now : ℕ) (bytes output : List ℕ) (status : ℕ) (text : List ℕ) : Type 0 where
+  pub done : status ≡ 0 → (now ≡ before) × IsAccepted command bytes × ((to : List ℕ) × IsMade command bytes to text × (IsTrue tells → PutsFile old new output to))
+  pub refused : status ≡ 1 → (now ≡ before) × ((r : Refusal) × IsRefusal command bytes r × (text ≡ refusal_text r))
   pub failed : status ≡ 3 → Rose before now × (text ≡ store_text output)
   pub memory : status ≡ 5 → text ≡ memory_text
   pub kept : status ≢ 0 → IsTrue tells → SameFiles old new
   pub only : (status ≡ 0) ⊎ (status ≡ 1) ⊎ (status ≡ 3) ⊎ (status ≡ 5)
 
--- What `body` does with IN and OUT, by its status: the files and the count of faults before and after, and the text.
-pub record BodyAnswer (tells : Bool) (old new : Files) (before now : ℕ) (input output : List ℕ) (status : ℕ) (text : List ℕ) : Type 0 where
-  pub done : status ≡ 0 → (now ≡ before) × (IsTrue tells → IsDone old new text input output)
-  pub refused : status ≡ 1 → (now ≡ before) × (IsTrue tells → IsRefused old text input)
+-- What a command does with its two files, by its status: the files and the count of faults before and after, and the text.
+pub record FileAnswer (command : Command) (tells : Bool) (old new : Files) (before now : ℕ) (input output : List ℕ) (status : ℕ) (text : List ℕ) : Type 0 where
+  pub done : status ≡ 0 → (now ≡ before) × (IsTrue tells → IsDone command old new text input output)
+  pub refused : status ≡ 1 → (now ≡ before) × (IsTrue tells → IsRefused command old text input)
   pub failed : status ≡ 3 → StoreFailed tells old before now text input output
   pub memory : status ≡ 5 → text ≡ memory_text
   pub kept : status ≢ 0 → IsTrue tells → SameFiles old new
@@ -124,14 +146,14 @@ pub record WrongAnswer (old new : Files) (before now : ℕ) (place status : ℕ)
 abbrev pub Answer : Bool → Files → Files → ℕ → ℕ → List (List ℕ) → ℕ → List ℕ → Type 0
 Answer tells old new before now words status text =
     ((place : ℕ) × (wrong_word words ≡ Some place) × WrongAnswer old new before now place status text)
-    ⊎ ((input output : List ℕ) × IsBodyCommand words input output × BodyAnswer tells old new before now input output status text)
+    ⊎ ((command : Command) × (input output : List ℕ) × IsCommand words command input output × FileAnswer command tells old new before now input output status text)
 
 -- ---- completeness
 
--- Where no fault is counted, what IN holds tells the status, unless memory runs out.
-abbrev pub Expected : Option (List ℕ) → ℕ → Type 0
-Expected None status = (status ≡ 3) ⊎ (status ≡ 5)
-Expected (Some bytes) status = ((status ≡ 0) × IsAccepted bytes) ⊎ ((status ≡ 1) × ((r : Refusal) × IsRefusal bytes r)) ⊎ (status ≡ 5)
+-- Where no fault is counted, what the input holds tells the status, unless memory runs out.
+abbrev pub Expected : Command → Option (List ℕ) → ℕ → Type 0
+Expected command None status = (status ≡ 3) ⊎ (status ≡ 5)
+Expected command (Some bytes) status = ((status ≡ 0) × IsAccepted command bytes) ⊎ ((status ≡ 1) × ((r : Refusal) × IsRefusal command bytes r)) ⊎ (status ≡ 5)
 
 -- ---- the text
 

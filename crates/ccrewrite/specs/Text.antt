@@ -7,6 +7,10 @@ use Rattle.cil_base.specs.declared.refusal.Refusal.{Refusal}
 abbrev pub done_text : ℕ → List ℕ
 done_text clauses = codes "body: " ++ (decimal clauses ++ codes " clauses\n")
 
+abbrev pub rewrite_text : ℕ → ℕ → ℕ → List ℕ
+rewrite_text assemblies methods clauses =
+    codes "ok: " ++ (decimal assemblies ++ (codes " assemblies, " ++ (decimal methods ++ (codes " methods, " ++ (decimal clauses ++ codes " clauses\n")))))
+
 -- two upper-case hexadecimal digits
 abbrev pub hex_pair : ℕ → List ℕ
 hex_pair n = digit_glyph true (n / 16) ∷ digit_glyph true (n % 16) ∷ []

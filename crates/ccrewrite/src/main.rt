@@ -2,6 +2,7 @@
 #![tactic(auto)]
 
 mod contract_rows;
+mod options;
 mod program;
 mod rewrite;
 mod splice;

@@ -3,15 +3,19 @@ ghost use Rattle.std.specs.Prelude.{◌≡◌, ◌≢◌, ◌⊎◌, ℕ, ◌*�
 ghost use Rattle.cil_base.specs.Refusals.{OnRefused};
 ghost use Rattle.outside_core.specs.Store.{SameFiles};
 ghost use Rattle.ccrewrite.specs.Splice.{clause_count, first_call};
-ghost use Rattle.ccrewrite.specs.Program.{IsRewriting, KeepsBodyRules, IsBodyRefusal, PutsFile, FromBytes, BodyAnswer, Answer, Puts, Expected, size_limit, too_long};
+ghost use Rattle.ccrewrite.specs.Program.{IsRewriting, KeepsBodyRules, IsBodyRefusal, IsMade, IsInnerRefusal, KeepsInnerRules, PutsFile, FromBytes, FileAnswer, Answer, Puts, Expected, size_limit, too_long};
+ghost use Rattle.ccrewrite.specs.Rewrite.{KeepsRows, IsAssemblyRefusal, KeepsAssemblyRules};
+ghost use Rattle.ccrewrite.specs.declared.words.Command.{Command};
 ghost use Rattle.ccrewrite.specs.Replies.{Replied};
 ghost use Rattle.cil_base.specs.Causes.{Rose};
-ghost use Rattle.ccrewrite.specs.Text.{done_text, refusal_text, words_text, store_text, memory_text};
-ghost use Rattle.ccrewrite.specs.Words.{texts, wrong_word, IsBodyCommand};
+ghost use Rattle.ccrewrite.specs.Text.{done_text, rewrite_text, refusal_text, words_text, store_text, memory_text};
+ghost use Rattle.ccrewrite.specs.Options.{texts};
+ghost use Rattle.ccrewrite.specs.Words.{wrong_word, IsCommand};
 
+use crate::rewrite::rewrite_assembly;
 use crate::splice::{first_requires, splice_one};
-use crate::text::{text_of_done, text_of_refusal, text_of_store, text_of_words};
-use crate::words::command_of;
+use crate::text::{text_of_done, text_of_refusal, text_of_rewrite, text_of_store, text_of_words};
+use crate::words::{Command, Request, command_of};
 use cil_base::{Bytes, Fault, Place, Refusal, Rule};
 use cil_model::Body;
 use il_body::{decode_small, encode_body};
@@ -62,6 +66,58 @@ fn rewrite_bytes(alloc: Global, bytes: &[u8]) -> Result<RewrittenBody, Fault>
     })
 }
 
+/// What a command makes: the bytes, and the text that says so.
+#[derive(Drop)]
+pub(crate) struct Made {
+    bytes: Bytes,
+    text: String,
+}
+
+fn made_of_body(alloc: Global, bytes: &[u8]) -> Result<Made, Fault>
+    ensures done { IfOk result (λ made. (clauses : ℕ) × IsRewriting bytes.now made.bytes clauses × (string_bytes made.text ≡ done_text clauses)) }
+    ensures accepted { OnOk result (KeepsBodyRules bytes.now) }
+    ensures refused { OnRefused result (IsBodyRefusal bytes.now) }
+{
+    let done = match rewrite_bytes(alloc, bytes) {
+        Ok(done) => done,
+        Err(fault) => return Err(fault),
+    };
+    Ok(Made {
+        text: text_of_done(alloc, done.clauses)?,
+        bytes: done.bytes,
+    })
+}
+
+/// An assembly without contracts is rewritten alike at each level and guard.
+fn made_of_assembly(alloc: Global, bytes: &[u8]) -> Result<Made, Fault>
+    requires { length bytes.now ≤ size_limit }
+    ensures done { IfOk result (λ made. KeepsRows bytes.now made.bytes × (string_bytes made.text ≡ rewrite_text 1 0 0)) }
+    ensures accepted { OnOk result (KeepsAssemblyRules bytes.now) }
+    ensures refused { OnRefused result (IsAssemblyRefusal bytes.now) }
+{
+    let rewritten = match rewrite_assembly(alloc, bytes) {
+        Ok(rewritten) => rewritten,
+        Err(fault) => return Err(fault),
+    };
+    Ok(Made {
+        text: text_of_rewrite(alloc, 1, 0, 0)?,
+        bytes: rewritten,
+    })
+}
+
+/// What the command makes of the bytes of its file.
+fn made_of(alloc: Global, command: Command, bytes: &[u8]) -> Result<Made, Fault>
+    requires { length bytes.now ≤ size_limit }
+    ensures done { IfOk result (λ made. IsMade command bytes.now made.bytes (string_bytes made.text)) }
+    ensures accepted { OnOk result (KeepsInnerRules command bytes.now) }
+    ensures refused { OnRefused result (IsInnerRefusal command bytes.now) }
+{
+    match command {
+        Command::Body => made_of_body(alloc, bytes),
+        Command::Rewrite(_) => made_of_assembly(alloc, bytes),
+    }
+}
+
 /// A status, and the text that goes with it.
 #[derive(Drop)]
 pub(crate) struct Reply {
@@ -87,42 +143,43 @@ fn store_failed(alloc: Global, name: &str) -> Result<Reply, AllocError>
     })
 }
 
-/// Puts the bytes under the name. The text is made before, so want of memory leaves the files.
+/// Puts what is made under the name. The text is there already, so want of memory leaves the files.
 fn written<S: Store>(
     alloc: Global,
     store: &mut S,
     output: &str,
-    done: &RewrittenBody,
+    made: Made,
 ) -> Result<Reply, AllocError>
-    ensures done { IfOk result (λ a. a.status ≡ 0 → (string_bytes a.text ≡ done_text done.now.clauses) × (S.faults store.new ≡ S.faults store.old) × (IsTrue (S.tells store.old) → PutsFile (S.file store.old) (S.file store.new) output.now done.now.bytes)) }
+    ensures done { IfOk result (λ a. a.status ≡ 0 → (string_bytes a.text ≡ string_bytes made.text) × (S.faults store.new ≡ S.faults store.old) × (IsTrue (S.tells store.old) → PutsFile (S.file store.old) (S.file store.new) output.now made.bytes)) }
     ensures failed { IfOk result (λ a. a.status ≡ 3 → (string_bytes a.text ≡ store_text output.now) × Rose (S.faults store.old) (S.faults store.new)) }
     ensures kept { IsOkAnd result (λ a. a.status ≡ 0) ⊎ (IsTrue (S.tells store.old) → SameFiles (S.file store.old) (S.file store.new)) }
     ensures only { IfOk result (λ a. (a.status ≡ 0) ⊎ (a.status ≡ 3)) }
     ensures steady { IsTrue (S.steady store.old) → S.faults store.new ≡ S.faults store.old }
 {
-    let text = text_of_done(alloc, done.clauses)?;
-    match store.replace(alloc, output, done.bytes.as_slice()) {
+    let Made { bytes, text } = made;
+    match store.replace(alloc, output, bytes.as_slice()) {
         Ok(()) => Ok(Reply { status: 0, text }),
         Err(StoreRefusal::Failed) => store_failed(alloc, output),
         Err(StoreRefusal::Memory(e)) => Err(e),
     }
 }
 
-/// Rewrites the bytes of a body that were read, and puts the result under the name.
+/// Does the command on the bytes that were read, and puts the result under the name.
 fn rewritten<S: Store>(
     alloc: Global,
+    command: Command,
     bytes: &[u8],
     output: &str,
     store: &mut S,
 ) -> Result<Reply, AllocError>
     requires { length bytes.now ≤ size_limit }
-    ensures answer { Replied (FromBytes (S.tells store.old) (S.file store.old) (S.file store.new) (S.faults store.old) (S.faults store.new) bytes.now output.now) result }
+    ensures answer { Replied (FromBytes command (S.tells store.old) (S.file store.old) (S.file store.new) (S.faults store.old) (S.faults store.new) bytes.now output.now) result }
     ensures steady { IsTrue (S.steady store.old) → S.faults store.new ≡ S.faults store.old }
 {
-    match rewrite_bytes(alloc, bytes) {
+    match made_of(alloc, command, bytes) {
         Err(Fault::Refused(r)) => refused(alloc, r),
         Err(Fault::Memory(e)) => Err(e),
-        Ok(done) => written(alloc, store, output, &done),
+        Ok(made) => written(alloc, store, output, made),
     }
 }
 
@@ -139,21 +196,22 @@ fn refusal_of_size() -> Refusal
     }
 }
 
-/// Rewrites the body in one file into another.
-fn body<S: Store>(
+/// Does the command: what it makes of one file is put into the other.
+fn done_to_files<S: Store>(
     alloc: Global,
+    command: Command,
     input: &str,
     output: &str,
     store: &mut S,
 ) -> Result<Reply, AllocError>
-    ensures answer { Replied (BodyAnswer (S.tells store.old) (S.file store.old) (S.file store.new) (S.faults store.old) (S.faults store.new) input.now output.now) result }
+    ensures answer { Replied (FileAnswer command (S.tells store.old) (S.file store.old) (S.file store.new) (S.faults store.old) (S.faults store.new) input.now output.now) result }
     ensures steady { IsTrue (S.steady store.old) → S.faults store.new ≡ S.faults store.old }
 {
     match store.read_all(alloc, input, SIZE_LIMIT) {
         Err(ReadRefusal::Failed) => store_failed(alloc, input),
         Err(ReadRefusal::TooLong) => refused(alloc, refusal_of_size()),
         Err(ReadRefusal::Memory(e)) => Err(e),
-        Ok(bytes) => rewritten(alloc, bytes.as_slice(), output, store),
+        Ok(bytes) => rewritten(alloc, command, bytes.as_slice(), output, store),
     }
 }
 
@@ -174,7 +232,14 @@ fn answer_of<S: Store>(alloc: Global, words: &[String], store: &mut S) -> Result
 {
     match command_of(words) {
         Err(k) => wrong_words(alloc, k),
-        Ok((input, output)) => body(alloc, input, output, store),
+        Ok(request) => {
+            let Request {
+                command,
+                input,
+                output,
+            } = request;
+            done_to_files(alloc, command, input, output, store)
+        }
     }
 }
 
@@ -192,10 +257,10 @@ pub fn run_words<S: Store, W: Sink>(
         × Answer (S.tells store.old) (S.file store.old) (S.file store.new) (S.faults store.old) (S.faults store.new) (texts words.now) status text
         × Puts (W.tells out.old) (W.taken out.old) (W.taken out.new) (W.faults out.old) (W.faults out.new) (W.room out.old) text status result }
 
-    // Where no fault is counted, what IN holds tells the status.
-    ensures complete { (input output : List ℕ) → IsBodyCommand (texts words.now) input output → IsTrue (S.tells store.old)
+    // Where no fault is counted, what the file that is read holds tells the status.
+    ensures complete { (command : Command) → (input output : List ℕ) → IsCommand (texts words.now) command input output → IsTrue (S.tells store.old)
         → ¬ Rose (S.faults store.old) (S.faults store.new) → ¬ Rose (W.faults out.old) (W.faults out.new)
-        → Expected (S.file store.old input) result }
+        → Expected command (S.file store.old input) result }
 
     // At a steady store no fault is counted, and wrong words ask nothing of any store.
     ensures steady { IsTrue (S.steady store.old) → S.faults store.new ≡ S.faults store.old }

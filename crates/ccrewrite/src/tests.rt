@@ -175,6 +175,77 @@ fn wrong_words_and_missing_files(rt: HostRuntime) -> Result<(), Fail> {
     Ok(())
 }
 
+#[test]
+fn wrong_words_of_rewrite(rt: HostRuntime) -> Result<(), Fail> {
+    let missing = b"store: a.dll\n".as_slice();
+    let cases: [(&[&str], u8, &[u8]); 17] = [
+        (&["rewrite"], 2, b"words: 1\n"),
+        (&["rewrite", "a.dll"], 2, b"words: 2\n"),
+        (&["rewrite", "--out"], 2, b"words: 2\n"),
+        (&["rewrite", "--out", "o"], 2, b"words: 3\n"),
+        (&["rewrite", "--out", "-o", "a.dll"], 2, b"words: 2\n"),
+        (&["rewrite", "--out", "o", "-a.dll"], 2, b"words: 3\n"),
+        (
+            &["rewrite", "--out", "o", "a.dll", "b.dll"],
+            2,
+            b"words: 4\n",
+        ),
+        (
+            &["rewrite", "--out", "o", "--out", "p", "a.dll"],
+            2,
+            b"words: 3\n",
+        ),
+        (
+            &["rewrite", "--mode", "plain", "--out", "o", "a.dll"],
+            2,
+            b"words: 1\n",
+        ),
+        (
+            &["rewrite", "--level", "5", "--out", "o", "a.dll"],
+            2,
+            b"words: 2\n",
+        ),
+        (
+            &["rewrite", "--level", "04", "--out", "o", "a.dll"],
+            2,
+            b"words: 2\n",
+        ),
+        (
+            &["rewrite", "--level", "+4", "--out", "o", "a.dll"],
+            2,
+            b"words: 2\n",
+        ),
+        (
+            &["rewrite", "--out", "o", "--guard", "101", "a.dll"],
+            2,
+            b"words: 4\n",
+        ),
+        (
+            &["rewrite", "--out", "o", "--guard", "", "a.dll"],
+            2,
+            b"words: 4\n",
+        ),
+        (
+            &["rewrite", "--out", "o", "a.dll", "--level", "4"],
+            2,
+            b"words: 4\n",
+        ),
+        (&["rewrite", "--out", "o", "a.dll"], 3, missing),
+        (
+            &[
+                "rewrite", "--guard", "100", "--level", "0", "--out", "o", "a.dll",
+            ],
+            3,
+            missing,
+        ),
+    ];
+    for (texts, status, text) in cases {
+        let holds = words_answer(rt.alloc(), texts, (status, text))?;
+        assert!(rt; holds, "at {texts:?}");
+    }
+    Ok(())
+}
+
 /// A store whose files are all too long.
 #[derive(Drop)]
 struct LongStore;
@@ -202,11 +273,14 @@ impl Store for LongStore {
 #[test]
 fn long_files_are_refused(rt: HostRuntime) -> Result<(), Fail> {
     let alloc = rt.alloc();
-    let mut out = MemSink::new(alloc, 100, U32s::new(alloc))?;
-    let words = words_from(alloc, &["body", "in", "out"])?;
-    let status = run_words(alloc, words.as_slice(), &mut LongStore, &mut out);
-    assert_eq!(rt; status, 1);
     let text = b"refused: L1 assembly 0 table 00 row 0 at 67108865\n".as_slice();
-    assert!(rt; out.taken() == text);
+    let cases: [&[&str]; 2] = [&["body", "in", "out"], &["rewrite", "--out", "out", "in"]];
+    for texts in cases {
+        let mut out = MemSink::new(alloc, 100, U32s::new(alloc))?;
+        let words = words_from(alloc, texts)?;
+        let status = run_words(alloc, words.as_slice(), &mut LongStore, &mut out);
+        let holds = status == 1 && out.taken() == text;
+        assert!(rt; holds, "at {texts:?}");
+    }
     Ok(())
 }

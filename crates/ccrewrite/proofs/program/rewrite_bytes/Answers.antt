@@ -1,7 +1,7 @@
 use Rattle.std.proofs.Common.{inr}
 use Rattle.cil_base.proofs.RefusalLaws.{IfRefused-weaker}
 use Rattle.cil_model.specs.SmallCode.{as_written}
-use Rattle.ccrewrite.proofs.Accepted.{first_of_bytes, none_of_bytes, to_layers}
+use Rattle.ccrewrite.proofs.Accepted.{first_of_bytes, none_of_bytes}
 use Rattle.ccrewrite.proofs.program.rewrite_bytes.Goals as goal
 
 pub returns-clause-done : goal.returns-clause-done

@@ -1,4 +1,4 @@
-use Rattle.std.proofs.Common.{refl}
+use Rattle.std.proofs.Common.{refl, string_bytes}
 use Rattle.ccrewrite.proofs.AnswerLaws.{replied_by, ok_and, bytes_refused, within_refused, no_memory, from_written}
 use Rattle.ccrewrite.specs.Program.{FromBytes}
 use Rattle.ccrewrite.proofs.program.rewritten.Goals as goal
@@ -10,15 +10,15 @@ returns-in-Err-Refused-clause-answer g c =
     let count = g.S.Store.faults c.args.store.now in
     let bytes = c.args.bytes.now in
     let output = c.args.output.now in
-    let refusal = within_refused bytes c.in-Err-Refused.r c.requires (rw c.in-Err-Refused.field-0-is at c.in-Err-Refused.ensures.refused) in
-    replied_by (FromBytes tells files files count count bytes output) c.refused.result
-    (ok_and c.refused.result _ _ (λ a e. bytes_refused tells files count bytes output c.in-Err-Refused.r a.status _ refusal e) c.refused.ensures)
-    (no_memory tells files files count count bytes output (λ t name. refl))
+    let refusal = within_refused c.args.command bytes c.in-Err-Refused.r c.requires (rw c.in-Err-Refused.field-0-is at c.in-Err-Refused.ensures.refused) in
+    replied_by (FromBytes c.args.command tells files files count count bytes output) c.refused.result
+    (ok_and c.refused.result _ _ (λ a e. bytes_refused c.args.command tells files count bytes output c.in-Err-Refused.r a.status _ refusal e) c.refused.ensures)
+    (no_memory c.args.command tells files files count count bytes output (λ t name. refl))
 
 pub returns-in-Ok-clause-answer : goal.returns-in-Ok-clause-answer
 returns-in-Ok-clause-answer g c =
     let store = c.args.store.now in
     let new = c.written.new.store in
-    from_written (g.S.Store.tells store) (g.S.Store.file store) (g.S.Store.file new) (g.S.Store.faults store) (g.S.Store.faults new)
-    c.args.bytes.now c.args.output.now c.in-Ok.done.bytes c.in-Ok.done.clauses c.written.result
+    from_written c.args.command (g.S.Store.tells store) (g.S.Store.file store) (g.S.Store.file new) (g.S.Store.faults store) (g.S.Store.faults new)
+    c.args.bytes.now c.args.output.now c.in-Ok.made.bytes (string_bytes c.in-Ok.made.text) c.written.result
     c.requires c.in-Ok.ensures.done c.in-Ok.ensures.accepted c.written.ensures.done c.written.ensures.failed c.written.ensures.kept c.written.ensures.only
