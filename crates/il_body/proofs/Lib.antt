@@ -1,9 +1,2 @@
 pub mod Encoding
-pub mod Reading
 pub mod Written
-pub mod InstrLaws
-pub mod SectionLaws
-pub mod PlaceLaws
-pub mod MappedLaws
-pub mod ReadLaws
-pub mod BodyLaws
