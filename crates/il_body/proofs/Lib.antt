@@ -1,2 +1,10 @@
 pub mod Encoding
 pub mod Written
+pub mod NumberLaws
+pub mod SpellingLaws
+pub mod OperandLaws
+pub mod PrefixLaws
+pub mod CodeLaws
+pub mod ClauseLaws
+pub mod LayoutLaws
+pub mod WholeLaws
