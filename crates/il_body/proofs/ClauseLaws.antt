@@ -174,6 +174,14 @@ length_clauses (c ∷ cs) = omega (arith, length-append (clause_bytes c) (flat_m
 
 -- ---- sections
 
+pub limit_size : 24 * clause_limit < 2 ^ 24 - 4
+unfolding clause_limit
+limit_size = omega arith
+
+pub limit_some : 0 < clause_limit
+unfolding clause_limit
+limit_some = omega arith
+
 abbrev kind_byte : Bool → ℕ
 kind_byte more = cond more 0xC1 0x41
 
@@ -212,8 +220,8 @@ section_back bytes at more cs rest few e =
     ap (λ (o : Option ℕ). section_of o at (length bytes)) n ∙ rw (p.0, p.1, p.2) (sized more at (length cs) (length bytes) (omega (arith, length_section more cs)))
   where
     below : (more : Bool) → kind_byte more + 0x100 * (4 + 24 * length cs) < 2 ^ 32
-    below true = omega arith
-    below false = omega arith
+    below true = omega (arith, limit_size)
+    below false = omega (arith, limit_size)
 
 section_clauses : (bytes : List ℕ) (at : ℕ) (more : Bool) (cs : List RawClause) (rest : List ℕ) → AllWritable cs → drop at bytes ≡ section_bytes more cs ++ rest → clauses_of bytes (section more cs at) ≡ cs
 section_clauses bytes at more cs rest w e =
@@ -257,7 +265,7 @@ first_back bytes k at n cs rest false t enough few w e more =
     let same : aligned end ≡ end = omega arith in
     let there : aligned at + length (section_bytes true front) ≡ aligned end = omega (arith, length_section true front) in
     let f = subst (λ (m : ℕ). drop m bytes ≡ tail) there (moved bytes (aligned at) (section_bytes true front) tail h) in
-    let others = more end (omega arith) (omega (arith, length-drop clause_limit cs)) f in
+    let others = more end (omega arith) (omega (arith, length-drop clause_limit cs, limit_some)) f in
     let total : aligned end + length (sections n behind) ≡ aligned at + length (section_bytes true front ++ sections n behind) = omega (arith, length-append (section_bytes true front) (sections n behind), length_section true front) in
     first ∙ ap (before front) others ∙ (λ i. Some (take-append-drop clause_limit cs i, total i))
 

@@ -8,3 +8,4 @@ pub mod CodeLaws
 pub mod ClauseLaws
 pub mod LayoutLaws
 pub mod WholeLaws
+pub mod PushLaws

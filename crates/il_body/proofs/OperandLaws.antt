@@ -120,3 +120,7 @@ operand_back a at count places kind (Index k) rest h valid small inside = index_
 operand_back a at count places kind (Target k) rest h valid small inside = target_back a at places kind k rest h small (omega arith)
 operand_back a at count places kind (Targets ks) rest h valid small inside = targets_back a at places kind ks rest h small inside
 operand_back a at count places kind (Tok assembly token) rest h valid small inside = tok_back a at assembly kind token rest h valid.0 valid.1
+
+pub switch_size : (at n : ℕ) (kind : OperandKind) (ks : List ℕ) (operand : Operand) → operand ≡ Targets ks → n ≡ length ks → 4 + 4 * n ≡ length (operand_bytes [] at kind operand)
+switch_size at n kind ks operand e h =
+    rw e (omega (arith, h, length-append (to_le_bytes w32 (length ks)) (case_bytes [] (at + 4 + 4 * length ks) ks), length_cases [] (at + 4 + 4 * length ks) ks))

@@ -1,5 +1,5 @@
 -- The bytes that are written stand for the body.
-use Rattle.std.proofs.Common.{◌≡◌, ℕ, zero, suc, ◌+◌, ◌-◌, ◌*◌, ◌^◌, ◌<◌, ◌≤◌, Bool, true, false, cond, not, ◌&&◌, List, [], ◌∷◌, ◌++◌, map, length, get_or, Option, Some, None, refl, sym, ap, ◌∙◌, subst, arith, append-nil, zero-add, length-append}
+use Rattle.std.proofs.Common.{◌≡◌, ℕ, zero, suc, ◌+◌, ◌-◌, ◌*◌, ◌^◌, ◌<◌, ◌≤◌, Bool, true, false, cond, not, ◌&&◌, List, [], ◌∷◌, ◌++◌, map, length, get_or, Option, Some, None, refl, sym, ap, ◌∙◌, subst, arith, append_assoc, append-nil, zero-add, length-append}
 use Rattle.std.specs.Prelude.{nat_lt, ◌==◌, IfSome, if◌then◌else◌}
 use Rattle.cil_base.specs.declared.token.Token.{Token}
 use Rattle.cil_base.specs.Tokens.{token_number}
@@ -13,7 +13,7 @@ use Rattle.cil_model.specs.BodyLayout.{layout_of, locals_of}
 use Rattle.cil_model.specs.BodyOf.{IsBody, IsInstr, StandsFor, mapped, place_of, placed, region_of}
 use Rattle.cil_model.specs.SmallCode.{Reads, is_absent, locals_number}
 use Rattle.il_code.specs.Answers.{Rise}
-use Rattle.il_body.specs.BodyEncoding.{AllValidRegions, IsSmallToken, IsValid, as_encoded, begins, behind_code, body_bytes, clause_of, code_bytes_of, counted, fat_header, fits_tiny, header_bytes, is_empty, starts, without_arguments}
+use Rattle.il_body.specs.BodyEncoding.{AllValidRegions, IsSmallToken, IsValid, as_encoded, begins, behind_code, body_bytes, clause_of, code_bytes_of, code_from, counted, fat_header, fits_tiny, header_bytes, is_empty, starts, without_arguments}
 use Rattle.il_body.proofs.ClauseLaws.{AllWritable, clauses_writable, regions_back}
 use Rattle.il_body.proofs.CodeLaws.{AreFound, all_back, found_before, instrs_placed, length_begins, length_starts, rise_starts, small_code, small_starts, starts-begins}
 use Rattle.il_body.proofs.Encoding.{absent, both, decide, equal, less}
@@ -76,19 +76,26 @@ not_set : (b : Bool) → not b ≡ true → b ≡ false
 not_set true h = cc
 not_set false h = refl
 
+no_regions : (body : Body) (size : ℕ) → fits_tiny body size ≡ true → body.regions ≡ []
+no_regions body size t =
+    let x = both (body.max_stack == 8) _ t in
+    let y = both (nat_lt size 64) _ x.1 in
+    let z = both (not body.init) _ y.1 in
+    none_left body.regions (both (is_absent body.locals) (is_empty body.regions) z.1).1
+
 tiny_stands : (a : ℕ) (body : Body) → IsValid a body → counted body.instrs ≤ 2 ^ 22 → fits_tiny body (length (code_bytes_of body.instrs)) ≡ true → StandsFor a (body_bytes body) (as_encoded body) (length (body_bytes body))
 tiny_stands a body valid few t =
     let code = code_bytes_of body.instrs in
-    let x = both (nat_lt (length code) 64) _ t in
-    let y = both (body.max_stack == 8) _ x.1 in
+    let x = both (body.max_stack == 8) _ t in
+    let y = both (nat_lt (length code) 64) _ x.1 in
     let z = both (not body.init) _ y.1 in
     let w = both (is_absent body.locals) (is_empty body.regions) z.1 in
-    let none = none_left body.regions w.1 in
+    let none = no_regions body (length code) t in
     let head : List ℕ = (4 * length code + 2) ∷ [] in
     let h : MethodHeader = record { size = 1; code_size = length code; max_stack = 8; init = false; locals = None; more = false } in
     let e : body_bytes body ≡ head ++ (code ++ []) = rw (t, none) refl in
     made a body head [] h [] e (laid_plain head code h (tiny_back (length code) (code ++ [])) refl refl refl) refl refl
-    (stands a body (record { header = h; clauses = []; len = length (head ++ (code ++ [])) }) valid few refl (rw none refl) (ap locals_number (absent body.locals w.0)) (equal body.max_stack 8 y.0) (not_set body.init z.0))
+    (stands a body (record { header = h; clauses = []; len = length (head ++ (code ++ [])) }) valid few refl (rw none refl) (ap locals_number (absent body.locals w.0)) (equal body.max_stack 8 x.0) (not_set body.init z.0))
 
 small_locals : (o : Option Token) → IfSome o IsSmallToken → locals_number o < 2 ^ 32
 small_locals None s = omega arith
@@ -125,3 +132,34 @@ fat_stands a body valid few stack f =
 pub body_back : (a : ℕ) (body : Body) → IsValid a body → counted body.instrs ≤ 2 ^ 22 → body.max_stack < 2 ^ 16 → StandsFor a (body_bytes body) (as_encoded body) (length (body_bytes body))
 body_back a body valid few stack =
     decide (fits_tiny body (length (code_bytes_of body.instrs))) (tiny_stands a body valid few) (fat_stands a body valid few stack)
+
+-- ---- the parts that are written one after another
+
+behind_same : (body : Body) (size : ℕ) (code : List ℕ) (f : Region → RawClause) → behind_code (length (header_bytes body size ++ code)) (map f body.regions) ≡ behind_code (12 + length code) (map f body.regions)
+behind_same body size code f =
+    decide (fits_tiny body size)
+    (λ t. rw (no_regions body size t) refl)
+    (λ g.
+        let n : length (fat_header body size ++ code) ≡ 12 + length code = length-append (fat_header body size) code in
+        let m : length (header_bytes body size ++ code) ≡ length (fat_header body size ++ code) = rw g refl in
+        ap (λ (k : ℕ). behind_code k (map f body.regions)) (m ∙ n))
+
+pub put_together : (body : Body) (places code head front out : List ℕ) → places ≡ starts 0 body.instrs → code ≡ code_from places 0 body.instrs → head ≡ header_bytes body (length code) → front ≡ head ++ code → out ≡ front ++ behind_code (length front) (map (clause_of places) body.regions) → out ≡ body_bytes body
+put_together body places code head front out p e h g o =
+    let whole = code_bytes_of body.instrs in
+    let header = header_bytes body (length whole) in
+    let e1 : code ≡ whole = e ∙ ap (λ (t : List ℕ). code_from t 0 body.instrs) p in
+    let h1 : head ≡ header = h ∙ ap (λ (c : List ℕ). header_bytes body (length c)) e1 in
+    let g1 : front ≡ header ++ whole = g ∙ (λ i. h1 i ++ e1 i) in
+    let f = clause_of (starts 0 body.instrs) in
+    o ∙ (λ i. g1 i ++ behind_code (length (g1 i)) (map (clause_of (p i)) body.regions)) ∙ ap (λ (t : List ℕ). (header ++ whole) ++ t) (behind_same body (length whole) whole f) ∙ append_assoc header whole (behind_code (12 + length whole) (map f body.regions))
+
+pub small_whole : (places : List ℕ) (is : List Instr) (n : ℕ) (code : List ℕ) → counted is ≤ 2 ^ 22 → code ≡ code_from places 0 is → n ≡ length code → n < 2 ^ 32
+small_whole places is n code few e h =
+    let m : length code ≡ length (code_from places 0 is) = ap (λ (l : List ℕ). length l) e in
+    omega (arith, few, h, m, small_code places 0 is)
+
+pub more_places : (places : List ℕ) (is : List Instr) → places ≡ starts 0 is → length is < length places
+more_places places is e =
+    let m : length places ≡ length (starts 0 is) = ap (λ (l : List ℕ). length l) e in
+    omega (arith, m, length_starts 0 is)

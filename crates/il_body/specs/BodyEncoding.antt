@@ -4,6 +4,8 @@ use Rattle.std.specs.Int.{w8, w16, w32, w64, cast_unsigned, to_le_bytes}
 use Rattle.std.specs.Ordering.{int_eq}
 use Rattle.cil_base.specs.declared.token.Token.{Token}
 use Rattle.cil_base.specs.Tokens.{token_number}
+use Rattle.cil_base.specs.declared.rule.Rule.TheVariants.{L4}
+use Rattle.cil_base.specs.declared.refusal.Refusal.{Refusal}
 use Rattle.cil_model.specs.declared.body.Operand.{Operand}
 use Rattle.cil_model.specs.declared.body.Operand.TheVariants.{Nothing, Int, Index, Target, Targets, Tok}
 use Rattle.cil_model.specs.declared.body.Instr.{Instr}
@@ -155,6 +157,13 @@ abbrev pub counted : List Instr → ℕ
 counted [] = 0
 counted (i ∷ is) = 1 + cases_in i.operand + counted is
 
+abbrev pub instr_limit : ℕ
+instr_limit = 2 ^ 22
+
+-- the refusal of a body that has more; it names no method
+abbrev pub too_many : Refusal
+too_many = record { rule = L4; assembly = 0; table = 0; row = 0; at = instr_limit + 1 }
+
 -- ---- the header
 
 abbrev pub is_empty : {X : Type 0} → List X → Bool
@@ -163,7 +172,7 @@ is_empty (x ∷ xs) = false
 
 -- whether a tiny header says all of a body whose code has so many bytes
 abbrev pub fits_tiny : Body → ℕ → Bool
-fits_tiny body size = nat_lt size 64 && ((body.max_stack == 8) && (not body.init && (is_absent body.locals && is_empty body.regions)))
+fits_tiny body size = (body.max_stack == 8) && (nat_lt size 64 && (not body.init && (is_absent body.locals && is_empty body.regions)))
 
 -- flags and the header's size in words, the stack, the code's size and the token of the locals
 abbrev pub fat_header : Body → ℕ → List ℕ
@@ -200,7 +209,7 @@ abbrev pub section_bytes : Bool → List RawClause → List ℕ
 section_bytes more cs = to_le_bytes w32 ((if more then 0xC1 else 0x41) + 0x100 * (4 + 24 * length cs)) ++ flat_map clause_bytes cs
 
 -- the most clauses whose section has a size of three bytes
-abbrev pub clause_limit : ℕ
+unfoldable pub clause_limit : ℕ
 clause_limit = 699050
 
 -- at most so many sections and one: each but the last has as many clauses as it can

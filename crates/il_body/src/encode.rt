@@ -1,0 +1,153 @@
+// The bytes of a body.
+ghost use Rattle.std.specs.Prelude.{◌≡◌, ℕ, List, ◌+◌, ◌*◌, ◌<◌, ◌≤◌, ◌^◌, ◌++◌, ◌∷◌, [], length, take, map, nat_le, OnOk, OnErr, IfOk, IfSome, if◌then◌else◌};
+ghost use Rattle.cil_base.specs.Refusals.{OnRefused};
+ghost use Rattle.cil_model.specs.BodyOf.{StandsFor};
+ghost use Rattle.cil_model.specs.SmallCode.{locals_number};
+ghost use Rattle.il_body.specs.BodyEncoding.{AllValid, IsSmallToken, IsValid, as_encoded, body_bytes, cases_in, clause_of, code_bytes_of, code_from, counted, fat_header, fits_tiny, header_bytes, instr_limit, is_empty, starts, too_many};
+
+use crate::clauses::push_sections;
+use crate::instr::push_instr;
+use crate::numbers::{push_four, push_two};
+use crate::small_code::number_of_locals;
+use crate::spelling::size_of;
+use cil_base::{Bytes, Fault, Place, Refusal, Rule, U32s};
+use cil_model::{Body, Instr, Operand, Regions};
+use std::alloc::{AllocError, Global};
+
+/// How many instructions a body may have, with each case of a switch as one more.
+const LIMIT: usize = 0x40_0000;
+
+/// How many instructions an instruction counts as.
+fn weight(i: &Instr) -> usize
+    ensures { result ≡ 1 + cases_in i.now.operand }
+{
+    match &i.operand {
+        Operand::Targets(ks) => 1 + ks.as_slice().len(),
+        _ => 1,
+    }
+}
+
+fn is_within_limit(instrs: &[Instr]) -> bool
+    ensures { result ≡ nat_le (counted instrs.now) instr_limit }
+{
+    let mut left = LIMIT;
+    for i in instrs {
+        let weight = weight(i);
+        if left < weight {
+            return false;
+        }
+        left -= weight;
+    }
+    true
+}
+
+/// The refusal of a body with more. It names no method.
+fn refused_size() -> Refusal
+    ensures { result ≡ too_many }
+{
+    let place = Place {
+        assembly: 0,
+        table: 0,
+        row: 0,
+    };
+    place.refusal(Rule::L4, LIMIT as u32 + 1)
+}
+
+/// Where the instructions begin, and where the last one ends.
+fn starts_of(alloc: Global, instrs: &[Instr]) -> Result<U32s, AllocError>
+    requires { counted instrs.now ≤ 2 ^ 22 }
+    ensures { IfOk result (λ places. places ≡ starts 0 instrs.now) }
+{
+    let mut places = U32s::new(alloc);
+    let mut at = 0u32;
+    for i in instrs {
+        places.push(at)?;
+        at += size_of(i) as u32;
+    }
+    places.push(at)?;
+    Ok(places)
+}
+
+/// The code of the instructions, which begin at these places.
+fn code_of(alloc: Global, instrs: &[Instr], places: &[u32]) -> Result<Bytes, AllocError>
+    requires few { counted instrs.now ≤ 2 ^ 22 }
+    requires valid { (a : ℕ) × (count : ℕ) × (count ≤ length places.now) × AllValid a count instrs.now }
+    ensures { IfOk result (λ code. code ≡ code_from places.now 0 instrs.now) }
+{
+    let mut code = Bytes::new(alloc);
+    for i in instrs {
+        let at = code.len() as u32;
+        push_instr(&mut code, places, at, i)?;
+    }
+    Ok(code)
+}
+
+/// Whether a tiny header says all of the body.
+fn is_tiny(body: &Body, size: usize) -> bool
+    ensures value { result ≡ fits_tiny body.now size }
+    ensures stack { body.now.max_stack < 2 ^ 16 }
+{
+    body.max_stack == 8
+        && size < 64
+        && !body.init
+        && body.locals.is_none()
+        && body.regions.is_empty()
+}
+
+fn flags_of(init: bool, regions: &Regions) -> u16
+    ensures { result ≡ 0x3003 + (if init then 0x10 else 0) + (if is_empty regions.now then 0 else 8) }
+{
+    let locals = if init { 0x10 } else { 0 };
+    let sections = if regions.is_empty() { 0 } else { 8 };
+    0x3003 + locals + sections
+}
+
+/// The twelve bytes in front of a body that a tiny header doesn't fit.
+fn push_fat_header(bytes: &mut Bytes, body: &Body, size: u32) -> Result<(), AllocError>
+    requires { IfSome body.now.locals IsSmallToken }
+    ensures { OnOk result (bytes.new ≡ bytes.old ++ fat_header body.now size) }
+{
+    push_two(bytes, flags_of(body.init, &body.regions))?;
+    push_two(bytes, body.max_stack)?;
+    push_four(bytes, size)?;
+    push_four(bytes, number_of_locals(&body.locals))
+}
+
+fn header_of(alloc: Global, body: &Body, size: usize) -> Result<Bytes, AllocError>
+    requires small { size < 2 ^ 32 }
+    requires locals { IfSome body.now.locals IsSmallToken }
+    ensures value { IfOk result (λ bytes. bytes ≡ header_bytes body.now size) }
+    ensures stack { body.now.max_stack < 2 ^ 16 }
+{
+    let mut bytes = Bytes::new(alloc);
+    if is_tiny(body, size) {
+        bytes.push((4 * size + 2) as u8)?;
+    } else {
+        push_fat_header(&mut bytes, body, size as u32)?;
+    }
+    Ok(bytes)
+}
+
+/// The bytes of a body (ECMA-335, II.25.4): each instruction in its shortest spelling, but branches
+/// and `leave` in the long one; a tiny header where it says all of the body; regions as fat clauses,
+/// in as many sections as their sizes of three bytes ask for. `decode_body` reads the body back,
+/// but for the offsets of its instructions. L4, with no place, where the body has over 2^22
+/// instructions, each case of a switch counted as one more.
+pub fn encode_body(alloc: Global, body: &Body) -> Result<Bytes, Fault>
+    requires { (a : ℕ) × IsValid a body.now }
+    ensures body { (a : ℕ) → IsValid a body.now → IfOk result (λ bytes. StandsFor a bytes (as_encoded body.now) (length bytes)) }
+    ensures bytes { IfOk result (λ bytes. bytes ≡ body_bytes body.now) }
+    ensures accepted { OnOk result (counted body.now.instrs ≤ instr_limit) }
+    ensures refused { OnRefused result (λ r. (instr_limit < counted body.now.instrs) × (r ≡ too_many)) }
+{
+    let instrs = body.instrs.as_slice();
+    if !is_within_limit(instrs) {
+        return Err(Fault::Refused(refused_size()));
+    }
+    let places = starts_of(alloc, instrs)?;
+    let code = code_of(alloc, instrs, places.as_slice())?;
+    let mut bytes = header_of(alloc, body, code.len())?;
+    bytes.append(code)?;
+    push_sections(&mut bytes, places.as_slice(), body.regions.as_slice())?;
+    Ok(bytes)
+}
