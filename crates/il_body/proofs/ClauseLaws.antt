@@ -1,26 +1,23 @@
 -- Regions read back as clauses of exception sections, one section after another.
-use Rattle.std.proofs.Common.{◌≡◌, ◌≢◌, ◌⊎◌, ⊎_elim, ℕ, zero, suc, ◌+◌, ◌-◌, ◌*◌, ◌/◌, ◌%◌, ◌^◌, ◌<◌, ◌≤◌, Bool, true, false, cond, not, ◌&&◌, ◌||◌, List, [], ◌∷◌, ◌++◌, map, length, drop, take, get_or, Option, Some, None, refl, sym, ap, ◌∙◌, subst, inl, inr, arith, append_assoc, append-nil, length-append, length-take, length-drop, take-append-drop}
-use Rattle.std.specs.Prelude.{nat_le, nat_lt, ◌==◌, flat_map}
+use Rattle.std.proofs.Common.{◌≡◌, ⊎_elim, ℕ, zero, suc, ◌+◌, ◌-◌, ◌*◌, ◌/◌, ◌%◌, ◌^◌, ◌<◌, ◌≤◌, Bool, true, false, cond, List, [], ◌∷◌, ◌++◌, map, length, drop, take, get_or, Option, Some, refl, sym, ap, ◌∙◌, subst, arith, append_assoc, append-nil, length-append, length-take, length-drop, take-append-drop}
+use Rattle.std.specs.Prelude.{nat_le, ◌==◌, flat_map}
 use Rattle.std.specs.List.{list_all}
 use Rattle.std.specs.Option.{option_map}
 use Rattle.std.specs.Int.{w32, to_le_bytes}
 use Rattle.std.proofs.lemmas.Bool.{leb-true, cases_lt}
 use Rattle.std.proofs.lemmas.Grind.{common_steps}
 use Rattle.cil_base.specs.declared.token.Token.{Token}
-use Rattle.cil_base.specs.Numbers.{num, num_at}
-use Rattle.cil_base.specs.Tokens.{token_number}
 use Rattle.cil_model.specs.declared.body.Region.{Region}
 use Rattle.cil_model.specs.declared.body.RegionKind.{RegionKind}
 use Rattle.cil_model.specs.declared.body.RegionKind.TheVariants.{Catch, Filter, Finally, Fault}
 use Rattle.cil_model.specs.declared.layout.RawClause.{RawClause}
 use Rattle.cil_model.specs.declared.layout.Section.{Section}
-use Rattle.cil_model.specs.BodyLayout.{aligned, before, bit, clause_at, clauses, clauses_of, fat_clause, if_sized, is_kind, section_at, section_of, sections_at}
+use Rattle.cil_model.specs.BodyLayout.{aligned, before, bit, clauses, clauses_of, fat_clause, if_sized, is_kind, section_at, section_of, sections_at}
 use Rattle.cil_model.specs.BodyOf.{kind_of, mapped, place_of, region_of}
 use Rattle.il_code.specs.Answers.{Rise}
 use Rattle.il_code.proofs.SectionLaws.{last, next}
 use Rattle.il_body.specs.BodyEncoding.{AllValidRegions, IsValidKind, IsValidRegion, clause_bytes, clause_limit, clause_of, flags_of, last_of, section_bytes, sections}
 use Rattle.il_body.proofs.CodeLaws.{AreFound, found_in}
-use Rattle.il_body.proofs.Encoding.{decide}
 use Rattle.il_body.proofs.NumberLaws.{moved, num_at_back, num_back, room, token_back}
 use Rattle.il_body.proofs.OperandLaws.{AreSmall}
 

@@ -1,5 +1,5 @@
 -- The code that is written reads back, and its places are those of its offsets.
-use Rattle.std.proofs.Common.{◌≡◌, ◌≢◌, ℕ, zero, suc, ◌+◌, ◌-◌, ◌*◌, ◌^◌, ◌<◌, ◌≤◌, Bool, true, false, cond, List, [], ◌∷◌, ◌++◌, map, length, drop, get_or, Option, Some, None, refl, sym, ap, ◌∙◌, subst, arith, length-append}
+use Rattle.std.proofs.Common.{◌≡◌, ℕ, zero, suc, ◌+◌, ◌*◌, ◌^◌, ◌<◌, ◌≤◌, true, List, [], ◌∷◌, ◌++◌, map, length, get_or, Option, Some, None, refl, sym, ap, ◌∙◌, subst, arith, length-append}
 use Rattle.std.specs.Prelude.{is_some, nat_lt}
 use Rattle.std.specs.Int.{w32, to_le_bytes}
 use Rattle.std.specs.Option.{option_map}
@@ -11,8 +11,8 @@ use Rattle.cil_model.specs.declared.body.Instr.{Instr}
 use Rattle.cil_model.specs.declared.opcode.Opcode.{Opcode}
 use Rattle.cil_model.specs.declared.opcode.OperandKind.{OperandKind}
 use Rattle.cil_model.specs.declared.opcode.OperandKind.TheVariants as op
-use Rattle.cil_model.specs.BodyOf.{IsInstr, and_all, mapped, place_of, placed, placed_operand}
-use Rattle.cil_model.specs.SmallCode.{Reads, displacement}
+use Rattle.cil_model.specs.BodyOf.{IsInstr, mapped, place_of, placed, placed_operand}
+use Rattle.cil_model.specs.SmallCode.{Reads}
 use Rattle.il_code.specs.Answers.{Rise}
 use Rattle.il_code.proofs.PlaceLaws.{found}
 use Rattle.il_body.specs.BodyEncoding.{AllBelow, AllValid, IsValidInstr, IsValidOperand, begins, case_bytes, cases_in, code_bytes, code_from, counted, front_bytes, index_bytes, instr_bytes, instr_size, int_bytes, operand_bytes, prefix_bytes, spelled, spelling_of, starts, without_arguments}

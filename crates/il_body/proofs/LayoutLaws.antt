@@ -1,20 +1,18 @@
 -- A header, the code and the sections read back.
-use Rattle.std.proofs.Common.{◌≡◌, ℕ, zero, suc, ◌+◌, ◌-◌, ◌*◌, ◌/◌, ◌%◌, ◌^◌, ◌<◌, ◌≤◌, Bool, true, false, cond, not, ◌&&◌, List, [], ◌∷◌, ◌++◌, map, length, drop, take, get_or, Option, Some, None, refl, sym, ap, ◌∙◌, subst, arith, append_assoc, append-nil, length-append}
-use Rattle.std.specs.Prelude.{nat_le, nat_lt, ◌==◌, if◌then◌else◌, replicate}
+use Rattle.std.proofs.Common.{◌≡◌, ℕ, ◌+◌, ◌-◌, ◌*◌, ◌/◌, ◌%◌, ◌^◌, ◌<◌, Bool, true, false, cond, not, List, [], ◌∷◌, ◌++◌, length, drop, Some, None, refl, sym, ap, ◌∙◌, subst, arith, append-nil, length-append}
+use Rattle.std.specs.Prelude.{nat_le, ◌==◌, if◌then◌else◌, replicate}
 use Rattle.std.specs.Int.{w16, w32, to_le_bytes}
 use Rattle.std.proofs.Math.Seq.{drop-append_seam, take-append_seam}
 use Rattle.std.proofs.lemmas.Grind.{common_steps}
 use Rattle.std.proofs.lemmas.List.{length-replicate}
-use Rattle.cil_base.specs.declared.token.Token.{Token}
 use Rattle.cil_base.specs.Numbers.{num}
 use Rattle.cil_base.specs.Tokens.{token_of}
-use Rattle.cil_model.specs.declared.layout.Layout.{Layout}
 use Rattle.cil_model.specs.declared.layout.MethodHeader.{MethodHeader}
 use Rattle.cil_model.specs.declared.layout.RawClause.{RawClause}
 use Rattle.cil_model.specs.BodyLayout as layout
 use Rattle.cil_model.specs.BodyLayout.{aligned, header_of, layout_of, locals_of, sections_at}
 use Rattle.cil_model.specs.SmallCode.{locals_number}
-use Rattle.il_body.specs.BodyEncoding.{behind_code, clause_limit, sections}
+use Rattle.il_body.specs.BodyEncoding.{behind_code, sections}
 use Rattle.il_body.proofs.ClauseLaws.{AllWritable, sections_back}
 use Rattle.il_body.proofs.NumberLaws.{moved, num_back}
 
@@ -48,6 +46,7 @@ fat_with init plain stack size locals rest s c l =
     below true false = omega arith
     below false true = omega arith
     below false false = omega arith
+
     go : (init plain : Bool) → num (to_le_bytes w16 (flags init plain) ++ (to_le_bytes w16 stack ++ (to_le_bytes w32 size ++ (to_le_bytes w32 locals ++ rest)))) 0 2 ≡ flags init plain → num (to_le_bytes w16 (flags init plain) ++ (to_le_bytes w16 stack ++ (to_le_bytes w32 size ++ (to_le_bytes w32 locals ++ rest)))) 2 2 ≡ stack → num (to_le_bytes w16 (flags init plain) ++ (to_le_bytes w16 stack ++ (to_le_bytes w32 size ++ (to_le_bytes w32 locals ++ rest)))) 4 4 ≡ size → num (to_le_bytes w16 (flags init plain) ++ (to_le_bytes w16 stack ++ (to_le_bytes w32 size ++ (to_le_bytes w32 locals ++ rest)))) 8 4 ≡ locals → nat_le 12 (length (to_le_bytes w16 (flags init plain) ++ (to_le_bytes w16 stack ++ (to_le_bytes w32 size ++ (to_le_bytes w32 locals ++ rest))))) ≡ true → header_of (to_le_bytes w16 (flags init plain) ++ (to_le_bytes w16 stack ++ (to_le_bytes w32 size ++ (to_le_bytes w32 locals ++ rest)))) ≡ Some (record { size = 12; code_size = size; max_stack = stack; init = init; locals = locals_of locals; more = not plain })
     go true true n0 n1 n2 n3 whole = rw (n0, n1, n2, n3, whole) refl
     go true false n0 n1 n2 n3 whole = rw (n0, n1, n2, n3, whole) refl

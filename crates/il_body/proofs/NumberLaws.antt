@@ -1,10 +1,9 @@
 -- Numbers that are written read back.
-use Rattle.std.proofs.Common.{◌≡◌, ◌≢◌, ◌⊎◌, ℕ, zero, suc, ◌+◌, ◌-◌, ◌*◌, ◌/◌, ◌%◌, ◌^◌, ◌<◌, ◌≤◌, Bool, true, false, cond, ◌&&◌, ℤ, pos, negsuc, List, [], ◌∷◌, ◌++◌, length, drop, Option, Some, None, refl, sym, ap, ◌∙◌, inl, inr, arith, length-append, length-drop}
+use Rattle.std.proofs.Common.{◌≡◌, ℕ, ◌+◌, ◌/◌, ◌%◌, ◌^◌, ◌<◌, ◌≤◌, true, ℤ, pos, negsuc, List, ◌++◌, length, drop, Some, refl, sym, ap, ◌∙◌, arith, length-append, length-drop}
 use Rattle.std.specs.Int.{w8, w16, w32, w64, cast_signed, cast_unsigned, bytes_low_first, to_le_bytes}
-use Rattle.std.specs.Prelude.{nat_le, nat_lt, ◌==◌}
+use Rattle.std.specs.Prelude.{nat_le, nat_lt}
 use Rattle.std.proofs.Math.Nat.{div-one, mod-eq_of_lt}
 use Rattle.std.proofs.Math.Seq.{drop-append_seam}
-use Rattle.std.proofs.lemmas.Bool.{leb-true}
 use Rattle.std.proofs.lemmas.Grind.{common_steps}
 use Rattle.std.proofs.lemmas.Int.{to_z-of_z}
 use Rattle.std.proofs.lemmas.List.{drop-drop}
@@ -15,7 +14,6 @@ use Rattle.cil_base.specs.Numbers.{num, num_at}
 use Rattle.cil_base.specs.Tokens.{token_of, token_number}
 use Rattle.cil_model.specs.SmallCode.{displacement}
 use Rattle.il_body.specs.BodyEncoding.{is_within}
-use Rattle.il_body.proofs.Encoding.{decide}
 
 pub num_back : (n : ℕ) (bytes : List ℕ) (at v : ℕ) (rest : List ℕ) → drop at bytes ≡ bytes_low_first 0 n v ++ rest → v < 256 ^ n → num bytes at n ≡ v
 unfolding num

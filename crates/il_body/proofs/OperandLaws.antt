@@ -1,12 +1,10 @@
 -- An operand that is written reads back, with offsets for places.
-use Rattle.std.proofs.Common.{◌≡◌, ℕ, zero, suc, ◌+◌, ◌-◌, ◌*◌, ◌%◌, ◌^◌, ◌<◌, ◌≤◌, Bool, true, false, ◌==◌, ℤ, List, [], ◌∷◌, ◌++◌, map, length, drop, get_or, Option, Some, None, refl, sym, ap, ◌∙◌, subst, arith, append_assoc, append-nil, length-append}
-use Rattle.std.specs.Prelude.{nat_le, nat_lt, slice_get}
-use Rattle.std.specs.Int.{w8, w16, w32, w64, cast_signed, cast_unsigned, to_le_bytes}
+use Rattle.std.proofs.Common.{◌≡◌, ℕ, suc, ◌+◌, ◌*◌, ◌^◌, ◌<◌, ◌≤◌, true, ℤ, List, [], ◌∷◌, ◌++◌, map, length, drop, get_or, Some, refl, sym, ap, ◌∙◌, subst, arith, append_assoc, append-nil, length-append}
+use Rattle.std.specs.Prelude.{nat_le}
+use Rattle.std.specs.Int.{w32, w64, cast_signed, cast_unsigned, to_le_bytes}
 use Rattle.std.specs.Ordering.{int_eq}
 use Rattle.std.specs.Cmp.{signed_Decides}
-use Rattle.std.proofs.Math.Seq.{drop-append_seam}
 use Rattle.std.proofs.lemmas.Grind.{common_steps}
-use Rattle.std.proofs.lemmas.List.{drop-drop}
 use Rattle.cil_base.specs.declared.token.Token.{Token}
 use Rattle.cil_base.specs.Numbers.{num, num_at}
 use Rattle.cil_base.specs.Tokens.{token_of, token_number}
@@ -16,7 +14,7 @@ use Rattle.cil_model.specs.declared.opcode.OperandKind.{OperandKind}
 use Rattle.cil_model.specs.declared.opcode.OperandKind.TheVariants as op
 use Rattle.cil_model.specs.BodyCode.{cases, landing, operand_at, switch_of, token_at, with_number}
 use Rattle.cil_model.specs.SmallCode.{displacement}
-use Rattle.il_body.specs.BodyEncoding.{AllBelow, IsSmallToken, IsValidOperand, case_bytes, cases_in, index_bytes, int_bytes, operand_bytes, takes, takes_index, takes_int, takes_nothing, takes_target, takes_targets, takes_token}
+use Rattle.il_body.specs.BodyEncoding.{IsSmallToken, IsValidOperand, case_bytes, cases_in, index_bytes, int_bytes, operand_bytes, takes, takes_index, takes_int, takes_nothing, takes_target, takes_targets, takes_token}
 use Rattle.il_body.proofs.Encoding.{equal, less}
 use Rattle.il_body.proofs.NumberLaws.{back_8, back_32, back_64, eight_at_front, lands, moved, num_at_back, num_back, small_32, small_64, small_displacement, token_back, two_at_front}
 

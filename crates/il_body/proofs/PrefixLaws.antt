@@ -1,27 +1,24 @@
 -- An instruction that is written with its prefixes reads back, with offsets for places.
-use Rattle.std.proofs.Common.{◌≡◌, ◌≢◌, ℕ, zero, suc, ◌+◌, ◌-◌, ◌*◌, ◌%◌, ◌^◌, ◌<◌, ◌≤◌, Bool, true, false, cond, List, [], ◌∷◌, ◌++◌, map, length, drop, get_or, Option, Some, None, Ok, Err, Result, refl, sym, ap, ◌∙◌, subst, arith, append_assoc, append-nil, length-append, length-drop}
+use Rattle.std.proofs.Common.{◌≡◌, ℕ, zero, suc, ◌+◌, ◌-◌, ◌*◌, ◌^◌, ◌<◌, ◌≤◌, Bool, true, false, List, [], ◌∷◌, ◌++◌, length, drop, Option, Some, None, Ok, refl, sym, ap, ◌∙◌, subst, arith, append_assoc, length-append}
 use Rattle.std.specs.Prelude.{is_some, nat_lt, IfSome, if◌then◌else◌}
 use Rattle.std.specs.Int.{w32, to_le_bytes}
 use Rattle.std.specs.Int.RustNames.{bit_or}
 use Rattle.cil_base.specs.declared.token.Token.{Token}
 use Rattle.cil_base.specs.Numbers.{num_at}
 use Rattle.cil_base.specs.Tokens.{token_of, token_number}
-use Rattle.cil_model.specs.declared.body.Operand.{Operand}
-use Rattle.cil_model.specs.declared.body.Operand.TheVariants.{Nothing, Int, Index, Target, Targets, Tok}
 use Rattle.cil_model.specs.declared.body.Instr.{Instr}
 use Rattle.cil_model.specs.declared.opcode.Opcode.{Opcode}
-use Rattle.cil_model.specs.declared.opcode.OperandKind.{OperandKind}
 use Rattle.cil_model.specs.declared.opcode.OperandKind.TheVariants as op
 use Rattle.cil_model.specs.declared.opcode.Class.TheVariants as class
 use Rattle.cil_model.specs.Opcodes.{opcode_of, the_opcodes, row}
 use Rattle.cil_model.specs.BodyCode.{instr_at, opcode_at, operand_at, prefixed, with_operand}
 use Rattle.cil_model.specs.BodyLayout.{bit}
 use Rattle.il_code.proofs.InstrLaws.{flagged, other, typed}
-use Rattle.il_body.specs.BodyEncoding.{IsSmallToken, IsValidInstr, IsValidOperand, cases_in, code_bytes, constrained_bytes, flag_bytes, front_bytes, instr_bytes, operand_bytes, prefix_bytes, spelled, spelling_of, takes}
+use Rattle.il_body.specs.BodyEncoding.{IsSmallToken, IsValidInstr, cases_in, code_bytes, constrained_bytes, flag_bytes, front_bytes, instr_bytes, operand_bytes, prefix_bytes, spelled, spelling_of}
 use Rattle.il_body.proofs.Encoding.{decide}
 use Rattle.il_body.proofs.NumberLaws.{moved, num_at_back, room, token_back}
 use Rattle.il_body.proofs.OperandLaws.{AreSmall, operand_back, read_operand}
-use Rattle.il_body.proofs.SpellingLaws.{IsSpelling, code_back, is_spelling, no_flag, no_type}
+use Rattle.il_body.proofs.SpellingLaws.{code_back, is_spelling, no_flag, no_type}
 
 -- Prefixes are read so far, and these bytes are left.
 record IsReached (a at : ℕ) (bytes : List ℕ) (c : Option Token) (f taken : ℕ) (rest : List ℕ) : Type 0 where

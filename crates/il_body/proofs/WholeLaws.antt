@@ -1,8 +1,7 @@
 -- The bytes that are written stand for the body.
-use Rattle.std.proofs.Common.{◌≡◌, ℕ, zero, suc, ◌+◌, ◌-◌, ◌*◌, ◌^◌, ◌<◌, ◌≤◌, Bool, true, false, cond, not, ◌&&◌, List, [], ◌∷◌, ◌++◌, map, length, get_or, Option, Some, None, refl, sym, ap, ◌∙◌, subst, arith, append_assoc, append-nil, zero-add, length-append}
-use Rattle.std.specs.Prelude.{nat_lt, ◌==◌, IfSome, if◌then◌else◌}
+use Rattle.std.proofs.Common.{◌≡◌, ℕ, ◌+◌, ◌*◌, ◌^◌, ◌<◌, ◌≤◌, Bool, true, false, not, List, [], ◌∷◌, ◌++◌, map, length, Option, Some, None, refl, sym, ap, ◌∙◌, subst, arith, append_assoc, zero-add, length-append}
+use Rattle.std.specs.Prelude.{nat_lt, ◌==◌, IfSome}
 use Rattle.cil_base.specs.declared.token.Token.{Token}
-use Rattle.cil_base.specs.Tokens.{token_number}
 use Rattle.cil_model.specs.declared.body.Body.{Body}
 use Rattle.cil_model.specs.declared.body.Instr.{Instr}
 use Rattle.cil_model.specs.declared.body.Region.{Region}
@@ -10,13 +9,13 @@ use Rattle.cil_model.specs.declared.layout.Layout.{Layout}
 use Rattle.cil_model.specs.declared.layout.MethodHeader.{MethodHeader}
 use Rattle.cil_model.specs.declared.layout.RawClause.{RawClause}
 use Rattle.cil_model.specs.BodyLayout.{layout_of, locals_of}
-use Rattle.cil_model.specs.BodyOf.{IsBody, IsInstr, StandsFor, mapped, place_of, placed, region_of}
+use Rattle.cil_model.specs.BodyOf.{IsBody, IsInstr, StandsFor, mapped, region_of}
 use Rattle.cil_model.specs.SmallCode.{Reads, is_absent, locals_number}
 use Rattle.il_code.specs.Answers.{Rise}
-use Rattle.il_body.specs.BodyEncoding.{AllValidRegions, IsSmallToken, IsValid, as_encoded, begins, behind_code, body_bytes, clause_of, code_bytes_of, code_from, counted, fat_header, fits_tiny, header_bytes, is_empty, starts, without_arguments}
+use Rattle.il_body.specs.BodyEncoding.{AllValidRegions, IsSmallToken, IsValid, as_encoded, begins, behind_code, body_bytes, clause_of, code_bytes_of, code_from, counted, fat_header, fits_tiny, header_bytes, is_empty, starts}
 use Rattle.il_body.proofs.ClauseLaws.{AllWritable, clauses_writable, regions_back}
 use Rattle.il_body.proofs.CodeLaws.{AreFound, all_back, found_before, instrs_placed, length_begins, length_starts, rise_starts, small_code, small_starts, starts-begins}
-use Rattle.il_body.proofs.Encoding.{absent, both, decide, equal, less}
+use Rattle.il_body.proofs.Encoding.{absent, both, decide, equal}
 use Rattle.il_body.proofs.LayoutLaws.{code_back, fat_back, laid_more, laid_plain, locals_back, tail_back, tiny_back}
 use Rattle.il_body.proofs.OperandLaws.{AreSmall}
 use Rattle.il_body.proofs.PrefixLaws.{read_instr}
@@ -140,9 +139,9 @@ behind_same body size code f =
     decide (fits_tiny body size)
     (λ t. rw (no_regions body size t) refl)
     (λ g.
-        let n : length (fat_header body size ++ code) ≡ 12 + length code = length-append (fat_header body size) code in
-        let m : length (header_bytes body size ++ code) ≡ length (fat_header body size ++ code) = rw g refl in
-        ap (λ (k : ℕ). behind_code k (map f body.regions)) (m ∙ n))
+    let n : length (fat_header body size ++ code) ≡ 12 + length code = length-append (fat_header body size) code in
+    let m : length (header_bytes body size ++ code) ≡ length (fat_header body size ++ code) = rw g refl in
+    ap (λ (k : ℕ). behind_code k (map f body.regions)) (m ∙ n))
 
 pub put_together : (body : Body) (places code head front out : List ℕ) → places ≡ starts 0 body.instrs → code ≡ code_from places 0 body.instrs → head ≡ header_bytes body (length code) → front ≡ head ++ code → out ≡ front ++ behind_code (length front) (map (clause_of places) body.regions) → out ≡ body_bytes body
 put_together body places code head front out p e h g o =

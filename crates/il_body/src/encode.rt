@@ -151,3 +151,79 @@ pub fn encode_body(alloc: Global, body: &Body) -> Result<Bytes, Fault>
     push_sections(&mut bytes, places.as_slice(), body.regions.as_slice())?;
     Ok(bytes)
 }
+
+/// Byte after byte, so that want of memory leaves the first ones.
+fn push_bytes(out: &mut Bytes, bytes: &[u8]) -> Result<(), AllocError>
+    ensures ok { OnOk result (out.new ≡ out.old ++ bytes.now) }
+    ensures err { OnErr result ((k : ℕ) × (out.new ≡ out.old ++ take k bytes.now)) }
+{
+    for b in bytes {
+        out.push(*b)?;
+    }
+    Ok(())
+}
+
+/// Appends the bytes that `encode_body` gives. L4 leaves `out` as it was; after want of memory it
+/// has the first of them more, or none.
+pub fn encode_into(alloc: Global, body: &Body, out: &mut Bytes) -> Result<(), Fault>
+    requires { (a : ℕ) × IsValid a body.now }
+    ensures body { (a : ℕ) → IsValid a body.now → OnOk result ((bytes : List ℕ) × (out.new ≡ out.old ++ bytes) × StandsFor a bytes (as_encoded body.now) (length bytes)) }
+    ensures appended { OnOk result (out.new ≡ out.old ++ body_bytes body.now) }
+    ensures accepted { OnOk result (counted body.now.instrs ≤ instr_limit) }
+    ensures refused { OnRefused result (λ r. (instr_limit < counted body.now.instrs) × (r ≡ too_many) × (out.new ≡ out.old)) }
+    ensures partly { OnErr result ((k : ℕ) × (out.new ≡ out.old ++ take k (body_bytes body.now))) }
+{
+    let bytes = match encode_body(alloc, body) {
+        Err(fault) => return Err(fault),
+        Ok(bytes) => bytes,
+    };
+    match push_bytes(out, bytes.as_slice()) {
+        Err(e) => Err(Fault::Memory(e)),
+        Ok(()) => Ok(()),
+    }
+}
+
+#[cfg(test)]
+mod tests {
+    use super::*;
+    use cil_model::Instrs;
+    use std::test::Fail;
+
+    /// A body that only returns.
+    fn ret(alloc: Global) -> Result<Body, AllocError>
+        ensures { IfOk result (IsValid 0) }
+    {
+        let mut instrs = Instrs::new(alloc);
+        instrs.push(Instr {
+            op: 0x2A,
+            operand: Operand::Nothing,
+            constrained: None,
+            prefixes: 0,
+            under: None,
+        })?;
+        Ok(Body {
+            instrs,
+            offsets: U32s::new(alloc),
+            regions: Regions::new(alloc),
+            locals: None,
+            max_stack: 8,
+            init: false,
+        })
+    }
+
+    #[test]
+    fn a_body_is_written_and_appended(rt: HostRuntime) -> Result<(), Fail> {
+        let alloc = rt.alloc();
+        let body = ret(alloc)?;
+        match encode_body(alloc, &body) {
+            Ok(bytes) => assert!(rt; bytes.as_slice() == [0x06, 0x2A].as_slice()),
+            Err(_) => assert!(rt; false, "not written"),
+        }
+        let mut out = Bytes::from_slice(alloc, &[7])?;
+        match encode_into(alloc, &body, &mut out) {
+            Ok(()) => assert!(rt; out.as_slice() == [7, 0x06, 0x2A].as_slice()),
+            Err(_) => assert!(rt; false, "not appended"),
+        }
+        Ok(())
+    }
+}

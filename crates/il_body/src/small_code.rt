@@ -184,8 +184,8 @@ pub fn encode_small(alloc: Global, body: &Body) -> Result<Bytes, Fault>
 #[cfg(test)]
 mod tests {
     use super::*;
-    use il_code::decode_small;
     use cil_base::Place;
+    use il_code::decode_small;
     use std::test::Fail;
 
     #[test]

@@ -1,4 +1,4 @@
-use Rattle.std.proofs.Common.{◌≡◌, ◌++◌, length, map, arith, sym}
+use Rattle.std.proofs.Common.{◌++◌, length, map, arith}
 use Rattle.il_body.specs.BodyEncoding.{clause_of, sections}
 use Rattle.il_body.proofs.PushLaws.{none_left, on_ok, one_less_at, regions_rest, regions_take}
 use Rattle.il_body.proofs.clauses.push_all.Goals as goal

@@ -1,4 +1,4 @@
-use Rattle.std.proofs.Common.{◌≡◌, ℕ, ◌<◌, ◌++◌, length, map}
+use Rattle.std.proofs.Common.{ℕ, ◌<◌, ◌++◌, length, map}
 use Rattle.il_body.specs.BodyEncoding.{AllValidRegions, clause_of, sections}
 use Rattle.il_body.proofs.PushLaws.{AreLeft}
 use Rattle.il_body.proofs.clauses.push_all.Given as goal

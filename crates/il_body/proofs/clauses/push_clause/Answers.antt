@@ -1,4 +1,4 @@
-use Rattle.std.proofs.Common.{List, ℕ, ◌++◌, ◌≡◌}
+use Rattle.std.proofs.Common.{◌++◌}
 use Rattle.std.specs.Int.{w32, to_le_bytes}
 use Rattle.il_body.proofs.PushLaws.{grown, on_ok}
 use Rattle.il_body.proofs.clauses.push_clause.Goals as goal

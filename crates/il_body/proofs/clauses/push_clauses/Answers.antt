@@ -1,4 +1,4 @@
-use Rattle.std.proofs.Common.{◌≡◌, ◌∙◌, ◌++◌, ℕ, List, ap, get_or, map, refl}
+use Rattle.std.proofs.Common.{◌≡◌, ◌∙◌, ◌++◌, List, ap, map}
 use Rattle.std.specs.Prelude.{flat_map}
 use Rattle.cil_model.specs.declared.body.Region.{Region}
 use Rattle.cil_model.specs.declared.layout.RawClause.{RawClause}

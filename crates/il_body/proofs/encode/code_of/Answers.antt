@@ -1,4 +1,4 @@
-use Rattle.std.proofs.Common.{◌≡◌, ◌∙◌, ◌++◌, ℕ, List, ap, length}
+use Rattle.std.proofs.Common.{◌≡◌, ◌∙◌, ◌++◌, ℕ, ap, length}
 use Rattle.il_body.specs.BodyEncoding.{code_from, instr_bytes}
 use Rattle.il_body.proofs.PushLaws.{code_more, code_room, rest_of, valid_more}
 use Rattle.il_body.proofs.encode.code_of.Goals as goal

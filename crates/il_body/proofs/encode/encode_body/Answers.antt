@@ -1,7 +1,6 @@
 use Rattle.std.proofs.Common.{◌≡◌, ◌∙◌, ◌≤◌, ◌^◌, ℕ, List, arith, subst, ap, sym, map, length, ◌++◌}
 use Rattle.std.proofs.lemmas.Bool.{leb-true}
 use Rattle.cil_model.specs.declared.body.Instr.{Instr}
-use Rattle.cil_model.specs.declared.body.Region.{Region}
 use Rattle.cil_model.specs.BodyOf.{StandsFor}
 use Rattle.il_body.specs.BodyEncoding.{AllValid, AllValidRegions, as_encoded, behind_code, body_bytes, clause_of, code_from, counted, header_bytes, starts}
 use Rattle.il_body.proofs.WholeLaws.{body_back, more_places, put_together, small_whole}

@@ -1,4 +1,4 @@
-use Rattle.std.proofs.Common.{◌≡◌, ℕ, ◌+◌, drop}
+use Rattle.std.proofs.Common.{◌≡◌, ◌+◌, drop}
 use Rattle.il_body.specs.BodyEncoding.{counted, instr_limit}
 use Rattle.il_body.proofs.encode.is_within_limit.Given as goal
 

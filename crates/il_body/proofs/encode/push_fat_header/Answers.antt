@@ -1,6 +1,5 @@
-use Rattle.std.proofs.Common.{List, ℕ, ◌++◌, ◌≡◌, ◌∙◌, ap}
+use Rattle.std.proofs.Common.{◌++◌}
 use Rattle.std.specs.Int.{w16, w32, to_le_bytes}
-use Rattle.cil_model.specs.SmallCode.{locals_number}
 use Rattle.il_body.proofs.PushLaws.{grown, on_ok}
 use Rattle.il_body.proofs.encode.push_fat_header.Goals as goal
 

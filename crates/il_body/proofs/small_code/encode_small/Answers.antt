@@ -1,5 +1,5 @@
-use Rattle.std.proofs.Common.{◌≡◌, ◌+◌, ◌∙◌, ◌++◌, ◌<◌, ◌^◌, ◌*◌, ◌≤◌, length, sym, ap, subst, arith, refl}
-use Rattle.cil_model.specs.SmallCode.{AllWritable, starts, encoded}
+use Rattle.std.proofs.Common.{◌≡◌, ◌+◌, ◌∙◌, length, sym, ap, arith, refl}
+use Rattle.cil_model.specs.SmallCode.{starts, encoded}
 use Rattle.il_body.proofs.Written.{written, length-starts, encoded_small}
 use Rattle.il_body.proofs.small_code.encode_small.Goals as goal
 

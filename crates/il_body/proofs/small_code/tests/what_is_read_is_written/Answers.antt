@@ -1,4 +1,4 @@
-use Rattle.std.proofs.Common.{◌≡◌, ◌+◌, ℕ, Bool, true, false, ◌||◌, List, [], ◌∷◌, length, IsTrue, ap}
+use Rattle.std.proofs.Common.{◌≡◌, ◌+◌, ℕ, Bool, true, ◌||◌, List, [], ◌∷◌, length, ap}
 use Rattle.cil_model.specs.declared.body.Instr.{Instr}
 use Rattle.cil_model.specs.SmallCode.{AllPlain, AllWritable, is_plain, is_branch_to}
 use Rattle.il_body.proofs.small_code.tests.what_is_read_is_written.Goals as goal
