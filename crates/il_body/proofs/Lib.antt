@@ -9,3 +9,6 @@ pub mod ClauseLaws
 pub mod LayoutLaws
 pub mod WholeLaws
 pub mod PushLaws
+pub mod KindLaws
+pub mod ReadLaws
+pub mod ValidLaws

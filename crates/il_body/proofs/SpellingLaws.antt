@@ -14,7 +14,7 @@ use Rattle.cil_model.specs.BodyCode.{opcode_at}
 use Rattle.il_body.specs.BodyEncoding.{code_bytes, spelling_of, takes}
 use Rattle.il_body.proofs.Encoding.{both, decide}
 
-split : {X : Type 0} (b : Bool) (x o : X) (r : Option X) → cond b (Some x) r ≡ Some o → ((b ≡ true) × (x ≡ o)) ⊎ ((b ≡ false) × (r ≡ Some o))
+pub split : {X : Type 0} (b : Bool) (x o : X) (r : Option X) → cond b (Some x) r ≡ Some o → ((b ≡ true) × (x ≡ o)) ⊎ ((b ≡ false) × (r ≡ Some o))
 split true x o r h = inl (refl, cc)
 split false x o r h = inr (refl, h)
 
@@ -50,7 +50,7 @@ at_code low p (x ∷ xs) o r f =
     (λ e. let l = lowest (x.code + 1) p xs o b.1 e.1 in rw (differ x.code o.code (omega arith)) (at_code (x.code + 1) p xs o b.1 e.1))
     (split (p x) x o (find p xs) f)
 
-passing : (p q : Opcode → Bool) (os : List Opcode) (o : Opcode) → list_all q os ≡ true → find p os ≡ Some o → (p o ≡ true) × (q o ≡ true)
+pub passing : (p q : Opcode → Bool) (os : List Opcode) (o : Opcode) → list_all q os ≡ true → find p os ≡ Some o → (p o ≡ true) × (q o ≡ true)
 passing p q [] o all f = cc
 passing p q (x ∷ xs) o all f =
     let b = both (q x) (list_all q xs) all in

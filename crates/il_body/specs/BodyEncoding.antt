@@ -290,3 +290,6 @@ pub record IsValid (a : ℕ) (body : Body) : Type 0 where
   pub instrs : AllValid a (length body.instrs) body.instrs
   pub regions : AllValidRegions (length body.instrs) body.regions
   pub locals : IfSome body.locals IsSmallToken
+
+abbrev pub AreBytes : List ℕ → Type 0
+AreBytes bytes = (k : ℕ) → get_or bytes k 0 < 256
