@@ -12,3 +12,4 @@ pub mod GrowthLaws
 pub mod SetLaws
 pub mod PieceLaws
 pub mod WrittenLaws
+pub mod WidthLaws

@@ -1,6 +1,7 @@
 // The tables of an assembly (ECMA-335, II.22).
 ghost use Rattle.std.specs.Prelude.{◌≡◌, ◌⊎◌, ℕ, ◌+◌, ◌-◌, ◌<◌, ◌≤◌, ◌^◌, ◌++◌, ◌↔◌, length, map, IsSome, MatchOption, IfOk, OnOk, OnErr, true};
 ghost use Rattle.cil_base.specs.Refusals.{First, NoneBroken, InTurn, Fails, OnRefused};
+ghost use Rattle.cli_heaps.specs.Growth.{Growths};
 ghost use Rattle.cli_heaps.specs.Root.{tables};
 ghost use Rattle.cli_tables.specs.TableRules.{HeaderBroken, RowsBroken};
 ghost use Rattle.lane_cols.specs.Places.{places};
@@ -47,6 +48,8 @@ impl Tables {
     pub fn read(alloc: Global, heaps: &Heaps<'_>, assembly: u32) -> Result<Tables, Fault>
         ensures cells { IfOk result (AreIn (tables heaps.now.bytes)) }
         ensures shaped { IfOk result IsShaped }
+        // They can be written again, whatever is added to the heaps.
+        ensures writable { IfOk result (λ ts. (grown : Growths) → indexes_fit (sizes_to heaps.now.bytes grown ts) ts ≡ true) }
         ensures header { OnOk result (NoneBroken (HeaderBroken heaps.now.bytes assembly)) }
         ensures accepted { OnOk result (NoneBroken (RowsBroken heaps.now.bytes assembly)) }
         ensures refused { OnRefused result (InTurn (HeaderBroken heaps.now.bytes assembly) (First (RowsBroken heaps.now.bytes assembly))) }
