@@ -14,7 +14,7 @@ use Rattle.cil_base.specs.declared.refusal.Fault.TheVariants.{Refused, Memory}
 use Rattle.cil_base.specs.Refusals.{NoneBroken, Fails, OnRefused}
 use Rattle.cli_heaps.specs.Root as root
 use Rattle.cli_heaps.specs.Growth.{Growths}
-use Rattle.cli_heaps.specs.Written.{filled, IsWritten, limit_tests}
+use Rattle.cli_heaps.specs.Written.{filled, parts, written, IsWritten, limit_tests}
 use Rattle.cli_tables.specs.declared.schema.Column.TheVariants.{U8, U16, U32, StringIndex, GuidIndex, BlobIndex, Row, FirstRow, Coded}
 use Rattle.cli_tables.specs.declared.schema.Column.{Column}
 use Rattle.cli_tables.specs.declared.sizes.Sizes.{Sizes}
@@ -431,3 +431,6 @@ module _ (r : Result (List ℕ) Fault) (meta old : List ℕ) (grown : Growths) (
 
   pub refused_kept : OnRefused r (Fails (limit_tests meta grown stream)) → OnRefused r (λ x. IsOverfull ts x ⊎ Fails (limit_tests meta grown (stream_in meta grown ts)) x)
   refused_kept h = refused_also r (IsOverfull ts) (Fails (limit_tests meta grown (stream_in meta grown ts))) (subst (λ (l : List ℕ). OnRefused r (Fails (limit_tests meta grown l))) stream_same h)
+
+  pub bytes_kept : IfOk r (λ new. new ≡ written meta (parts meta grown stream)) → IfOk r (λ new. new ≡ written meta (parts meta grown (stream_in meta grown ts)))
+  bytes_kept h = subst (λ (l : List ℕ). IfOk r (λ new. new ≡ written meta (parts meta grown l))) stream_same h

@@ -8,9 +8,10 @@ ghost use Rattle.lane_cols.specs.Places.{places};
 ghost use Rattle.cli_tables.specs.Schema.{columns_of};
 ghost use Rattle.cli_tables.specs.Tables.{column_of, rows_of, cell_of, HasCell, IsShaped, AreIn, IsRow, IsAppended, IsSet, fits_column, rows_with};
 ghost use Rattle.cli_tables.specs.Stream.{kind_of};
+ghost use Rattle.cli_tables.specs.Layout.{tables_in};
 ghost use Rattle.cli_tables.specs.Growth.{table_full};
 ghost use Rattle.cli_tables.specs.Written.{counts_to, is_many, sizes_to, stream_in, column_fits, table_fits, indexes_fit, NoneFull, IsOverfull, AreOfOne, Holds};
-ghost use Rattle.cli_heaps.specs.Written.{filled, GrewFrom, IsWritten, EntriesRead, limit_tests};
+ghost use Rattle.cli_heaps.specs.Written.{filled, parts, written, GrewFrom, IsWritten, EntriesRead, limit_tests};
 
 use crate::header::first_in_header;
 use crate::reading::read_tables;
@@ -47,6 +48,7 @@ impl Tables {
     /// broken place: M3 on the header; else, by table, row and column, M4 to M7.
     pub fn read(alloc: Global, heaps: &Heaps<'_>, assembly: u32) -> Result<Tables, Fault>
         ensures cells { IfOk result (AreIn (tables heaps.now.bytes)) }
+        ensures exact { IfOk result (λ t. t ≡ tables_in (tables heaps.now.bytes)) }
         ensures shaped { IfOk result IsShaped }
         // They can be written again, whatever is added to the heaps.
         ensures writable { IfOk result (λ ts. (grown : Growths) → indexes_fit (sizes_to heaps.now.bytes grown ts) ts ≡ true) }
@@ -158,6 +160,7 @@ impl Tables {
         requires grew { GrewFrom heaps.now.bytes grown.now }
         requires fit { indexes_fit (sizes_to heaps.now.bytes grown.now self.now) self.now ≡ true }
         ensures written { IfOk result (IsWritten heaps.now.bytes grown.now (stream_in heaps.now.bytes grown.now self.now)) }
+        ensures bytes { IfOk result (λ new. new ≡ written heaps.now.bytes (parts heaps.now.bytes grown.now (stream_in heaps.now.bytes grown.now self.now))) }
         ensures entries { IfOk result (EntriesRead heaps.now.bytes grown.now) }
         ensures cells { IfOk result (λ new. AreIn (tables new) self.now) }
         ensures holds { IfOk result (λ new. Holds (tables heaps.now.bytes) (sizes_to heaps.now.bytes grown.now self.now) self.now (tables new)) }
