@@ -58,13 +58,21 @@ abbrev pub IsContractRow : List ℕ → ℕ → ℕ → Type 0
 IsContractRow meta table row =
     (place : ℕ) × (cell_at (root.tables meta) table row 2 ≡ Some place) × (string_at (root.strings meta) place ≡ Some contracts_namespace)
 
+-- the first of them in a table
+pub record IsFirstRow (meta : List ℕ) (table row : ℕ) : Type 0 where
+  pub there : IsContractRow meta table row
+  pub none_before : (before : ℕ) → before < row → IsContractRow meta table before → ⊥
+
 -- A TypeRef or TypeDef row of that namespace: the assembly has contracts, which aren't rewritten yet.
-pub record HasContracts (bytes : List ℕ) (r : Refusal) : Type 0 where
+pub record HasContracts (meta : List ℕ) (r : Refusal) : Type 0 where
   pub rule : r.rule ≡ Z1
   pub assembly : r.assembly ≡ 0
   pub table : (r.table ≡ 1) ⊎ (r.table ≡ 2)
-  pub row : IsContractRow (metadata_of bytes) r.table r.row
+  pub row : IsContractRow meta r.table r.row
   pub at : r.at ≡ 0
+
+abbrev pub contract_row : ℕ → ℕ → Refusal
+contract_row table row = record { rule = Z1; assembly = 0; table = table; row = row; at = 0 }
 
 -- a limit of what is written; any one of those that are passed may be named
 abbrev pub PassesLimit : List ℕ → Refusal → Type 0
@@ -86,7 +94,7 @@ IsAssemblyRefusal bytes =
     (InTurn (heaps.Broken (metadata_of bytes) 0)
     (InTurn (HeaderBroken (metadata_of bytes) 0)
     (InTurn (RowsBroken (metadata_of bytes) 0)
-    (InTurn (HasContracts bytes)
+    (InTurn (HasContracts (metadata_of bytes))
     (AnyThen (PassesLimit bytes) (HasNoRoom bytes))))))
 
 -- None of them is broken.
@@ -95,6 +103,6 @@ pub record KeepsAssemblyRules (bytes : List ℕ) : Type 0 where
   pub root : NoneBroken (heaps.Broken (metadata_of bytes) 0)
   pub header : NoneBroken (HeaderBroken (metadata_of bytes) 0)
   pub rows : NoneBroken (RowsBroken (metadata_of bytes) 0)
-  pub contracts : NoneBroken (HasContracts bytes)
+  pub contracts : NoneBroken (HasContracts (metadata_of bytes))
   pub limits : NoneBroken (PassesLimit bytes)
   pub room : NoneBroken (HasNoRoom bytes)
