@@ -13,7 +13,7 @@ returns-in-Ok-clause-room c =
     let m : List ℕ = c.args.metadata.now in
     on_ok c.write_image.result (λ out. grown_of c.args.image.now.bytes c.args.image.now.assembly c.args.metadata.now c.in-Ok.rva (length c.args.metadata.now) ≡ Ok out)
     (NoneBroken (λ r. growth_in c.args.image.now.bytes c.args.image.now.assembly (headers_of c.args.image.now.bytes) (length c.args.metadata.now) ≡ Err r))
-    (λ out e. no_error b m out c.args.image.now.assembly c.in-Ok.rva (length m) e) ?
+    (λ out e. no_error b m out c.args.image.now.assembly c.in-Ok.rva (length m) e) c.write_image.ensures.ok
 
 pub returns-in-Ok-clause-refused : goal.returns-in-Ok-clause-refused
 returns-in-Ok-clause-refused c =
@@ -21,7 +21,7 @@ returns-in-Ok-clause-refused c =
     let m : List ℕ = c.args.metadata.now in
     OnRefused-weaker c.write_image.result (λ r. grown_of c.args.image.now.bytes c.args.image.now.assembly c.args.metadata.now c.in-Ok.rva (length c.args.metadata.now) ≡ Err r)
     (λ r. growth_in c.args.image.now.bytes c.args.image.now.assembly (headers_of c.args.image.now.bytes) (length c.args.metadata.now) ≡ Err r)
-    (λ r e. error_of b m c.args.image.now.assembly c.in-Ok.rva (length m) r e) ?
+    (λ r e. error_of b m c.args.image.now.assembly c.in-Ok.rva (length m) r e) c.write_image.ensures.refused
 
 pub returns-in-Err-clause-refused : goal.returns-in-Err-clause-refused
 returns-in-Err-clause-refused c = error_room c.args.image.now.bytes c.args.metadata.now c.args.image.now.assembly c.in-Err.refusal (sym c.in-Err.ensures)

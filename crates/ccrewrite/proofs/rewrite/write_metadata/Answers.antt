@@ -10,14 +10,9 @@ use Rattle.ccrewrite.specs.Rewrite.{no_growths}
 use Rattle.ccrewrite.proofs.RewriteLaws.{within}
 use Rattle.ccrewrite.proofs.rewrite.write_metadata.Goals as goal
 
-grown_is : (c : goal.In_ok-grown) → c.in_ok-grown.grown ≡ no_growths c.args.heaps.now.bytes
-grown_is c = c.in_ok-grown.ensures
-
 pub returns-clause-bytes : goal.returns-clause-bytes
 returns-clause-bytes c =
-    let meta : List ℕ = c.args.heaps.now.bytes in
-    let ts : List (List (List ℕ)) = c.args.tables.now in
-    subst (λ (g : Growths). IfOk c.write.result (λ new. new ≡ written c.args.heaps.now.bytes (parts c.args.heaps.now.bytes g (stream_in c.args.heaps.now.bytes g c.args.tables.now)))) (grown_is c) c.write.ensures.bytes
+    subst (λ (g : Growths). IfOk c.write.result (λ new. new ≡ written c.args.heaps.now.bytes (parts c.args.heaps.now.bytes g (stream_in c.args.heaps.now.bytes g c.args.tables.now)))) c.in_ok-grown.ensures c.write.ensures.bytes
 
 pub returns-clause-header : goal.returns-clause-header
 returns-clause-header c =
@@ -27,8 +22,8 @@ returns-clause-header c =
 pub returns-clause-within : goal.returns-clause-within
 returns-clause-within c =
     within c.write.result c.args.tables.now (limit_tests c.args.heaps.now.bytes (no_growths c.args.heaps.now.bytes) (stream_in c.args.heaps.now.bytes (no_growths c.args.heaps.now.bytes) c.args.tables.now)) c.write.ensures.room
-    (subst (λ (g : Growths). OnOk c.write.result (NoneBroken (Fails (limit_tests c.args.heaps.now.bytes g (stream_in c.args.heaps.now.bytes g c.args.tables.now))))) (grown_is c) c.write.ensures.limits)
+    (subst (λ (g : Growths). OnOk c.write.result (NoneBroken (Fails (limit_tests c.args.heaps.now.bytes g (stream_in c.args.heaps.now.bytes g c.args.tables.now))))) c.in_ok-grown.ensures c.write.ensures.limits)
 
 pub returns-clause-refused : goal.returns-clause-refused
 returns-clause-refused c =
-    subst (λ (g : Growths). OnRefused c.write.result (λ r. IsOverfull c.args.tables.now r ⊎ Fails (limit_tests c.args.heaps.now.bytes g (stream_in c.args.heaps.now.bytes g c.args.tables.now)) r)) (grown_is c) c.write.ensures.refused
+    subst (λ (g : Growths). OnRefused c.write.result (λ r. IsOverfull c.args.tables.now r ⊎ Fails (limit_tests c.args.heaps.now.bytes g (stream_in c.args.heaps.now.bytes g c.args.tables.now)) r)) c.in_ok-grown.ensures c.write.ensures.refused
