@@ -1,5 +1,5 @@
 -- An assembly written anew: what its parts say of it.
-use Rattle.std.proofs.Common.{◌≡◌, ◌⊎◌, ℕ, ◌+◌, ◌-◌, ◌^◌, ◌<◌, ◌≤◌, eqb, ltb, Bool, true, false, cond, not, ◌&&◌, ◌||◌, List, [], length, Option, Some, None, option_map, take, drop, Result, Ok, Err, refl, sym, ap, ◌∙◌, subst, inl, inr, arith}
+use Rattle.std.proofs.Common.{◌≡◌, ◌⊎◌, ℕ, ◌-◌, ◌^◌, ◌≤◌, eqb, ltb, Bool, true, false, cond, not, ◌||◌, List, [], length, Option, Some, None, option_map, take, drop, Result, Ok, Err, refl, sym, ap, ◌∙◌, subst, inl, inr, arith}
 use Rattle.std.specs.Prelude.{IfOk, OnOk, unwrap_or}
 use Rattle.std.proofs.lemmas.List.{take_all, take-append-drop, length-append, length-drop}
 use Rattle.std.proofs.lemmas.Bool.{cases_Bool, and_parts, eqb-true}
@@ -15,14 +15,16 @@ use Rattle.pe_image.specs.Growth.{growth_in, growth_of, grown_len, has_room, roo
 use Rattle.pe_image.specs.Written.{grown_of, grown_by, grown, grown_cli, KeepsBytes}
 use Rattle.pe_image.specs.ReadBack.{new_rva, Grows}
 use Rattle.pe_image.specs.Rules as image
+use Rattle.pe_image.specs.Images.{File}
 use Rattle.cli_heaps.specs.Root as root
+use Rattle.cli_heaps.specs.Root.{Metadata}
 use Rattle.cli_heaps.specs.RootRules as heaps
 use Rattle.cli_heaps.specs.Written.{parts, written, limit_tests, IsWritten}
 use Rattle.cli_tables.specs.Layout.{tables_in}
-use Rattle.cli_tables.specs.Tables.{rows_in, rows_of, AreIn}
+use Rattle.cli_tables.specs.Tables.{rows_in, AreIn}
 use Rattle.cli_tables.specs.TableRules.{HeaderBroken, RowsBroken, has_unread, is_one_assembly}
 use Rattle.cli_tables.specs.Written.{stream_in, NoneFull, IsOverfull, AreOfOne}
-use Rattle.ccrewrite.specs.Rewrite.{no_growths, tables_of, new_stream, new_metadata, KeepsRows, HasContracts, PassesLimit, HasNoRoom, AnyThen, IsAssemblyRefusal, KeepsAssemblyRules}
+use Rattle.ccrewrite.specs.Rewrite.{no_growths, tables_of, new_metadata, KeepsRows, HasContracts, PassesLimit, HasNoRoom, AnyThen, IsAssemblyRefusal, KeepsAssemblyRules}
 
 -- ---- answers
 
@@ -87,6 +89,16 @@ short_metadata bytes =
     short_option (λ s. part bytes (place_in s (cli_of bytes).metadata_rva) (cli_of bytes).metadata_len) (length bytes)
     (section_of bytes (headers_of bytes) (cli_of bytes).metadata_rva (cli_of bytes).metadata_len)
     (λ s. short_part bytes (place_in s (cli_of bytes).metadata_rva) (cli_of bytes).metadata_len)
+
+pub metadata_read : (bytes raw : List ℕ) (i : File) (h : Metadata) → i ≡ record { bytes = bytes; assembly = 0 } → raw ≡ metadata_of i.bytes → h ≡ record { bytes = raw; assembly = 0 } → h.bytes ≡ metadata_of bytes
+metadata_read bytes raw i h f e g = ap (λ (x : Metadata). x.bytes) g ∙ e ∙ ap (λ (x : File). metadata_of x.bytes) f
+
+pub root_read : (raw : List ℕ) (h : Metadata) → h ≡ record { bytes = raw; assembly = 0 } → NoneBroken (heaps.Broken raw 0) → NoneBroken (heaps.Broken h.bytes 0)
+root_read raw h g none = subst (λ (x : List ℕ). NoneBroken (heaps.Broken x 0)) (sym (ap (λ (x : Metadata). x.bytes) g)) none
+
+-- what is said of the image and of the slice is said of their bytes
+pub of_bytes : (P : List ℕ → ℕ → List ℕ → Type 0) (bytes slice m : List ℕ) (i : File) → i ≡ record { bytes = bytes; assembly = 0 } → slice ≡ m → P i.bytes i.assembly slice → P bytes 0 m
+of_bytes P bytes slice m i f s h = subst (λ (x : List ℕ). P bytes 0 x) s (subst (λ (x : File). P x.bytes x.assembly slice) f h)
 
 -- one Module and one Assembly row, where the header breaks no rule
 pub one_each : (meta : List ℕ) (ts : List (List (List ℕ))) (a : ℕ) → AreIn (root.tables meta) ts → NoneBroken (HeaderBroken meta a) → AreOfOne ts
@@ -168,17 +180,32 @@ module _ (bytes meta : List ℕ) (e : meta ≡ metadata_of bytes) where
   tables_refused r a b (inl f) =
       inr (a, inr (subst (λ (x : List ℕ). NoneBroken (heaps.Broken x 0)) e b, inl (subst (λ (x : List ℕ). First (HeaderBroken x 0) r) e f)))
   tables_refused r a b (inr f) =
-      inr (a, inr (subst (λ (x : List ℕ). NoneBroken (heaps.Broken x 0)) e b,
-      inr (subst (λ (x : List ℕ). NoneBroken (HeaderBroken x 0)) e f.0, inl (subst (λ (x : List ℕ). First (RowsBroken x 0) r) e f.1))))
+      inr (
+        a,
+        inr (
+          subst (λ (x : List ℕ). NoneBroken (heaps.Broken x 0)) e b,
+          inr (subst (λ (x : List ℕ). NoneBroken (HeaderBroken x 0)) e f.0, inl (subst (λ (x : List ℕ). First (RowsBroken x 0) r) e f.1)),
+        ),
+      )
 
   pub refused_tables : (fault : Fault) → NoneBroken (image.Broken bytes 0) → NoneBroken (heaps.Broken meta 0) → IfRefused fault (InTurn (HeaderBroken meta 0) (First (RowsBroken meta 0))) → IfRefused fault (IsAssemblyRefusal bytes)
   refused_tables fault a b f = IfRefused-weaker fault (InTurn (HeaderBroken meta 0) (First (RowsBroken meta 0))) (IsAssemblyRefusal bytes) (λ r x. tables_refused r a b x) f
 
   pub refused_contracts : (r : Refusal) → NoneBroken (image.Broken bytes 0) → NoneBroken (heaps.Broken meta 0) → NoneBroken (HeaderBroken meta 0) → NoneBroken (RowsBroken meta 0) → First (HasContracts meta) r → IsAssemblyRefusal bytes r
   refused_contracts r a b c d f =
-      inr (a, inr (subst (λ (x : List ℕ). NoneBroken (heaps.Broken x 0)) e b,
-      inr (subst (λ (x : List ℕ). NoneBroken (HeaderBroken x 0)) e c, inr (subst (λ (x : List ℕ). NoneBroken (RowsBroken x 0)) e d,
-      inl (subst (λ (x : List ℕ). First (HasContracts x) r) e f)))))
+      inr (
+        a,
+        inr (
+          subst (λ (x : List ℕ). NoneBroken (heaps.Broken x 0)) e b,
+          inr (
+            subst (λ (x : List ℕ). NoneBroken (HeaderBroken x 0)) e c,
+            inr (
+              subst (λ (x : List ℕ). NoneBroken (RowsBroken x 0)) e d,
+              inl (subst (λ (x : List ℕ). First (HasContracts x) r) e f),
+            ),
+          ),
+        ),
+      )
 
   module _ (ts : List (List (List ℕ))) (t : ts ≡ tables_in (root.tables meta)) (none : Clean bytes) where
     passes : (r : Refusal) → Limits meta ts r → PassesLimit bytes r

@@ -1,8 +1,8 @@
 -- What `rewrite` makes of one assembly without contracts: the same rows in a grown image, with its metadata in a section of their own.
-use Rattle.std.specs.Prelude.{◌≡◌, ◌⊎◌, ◌<◌, ◌≤◌, ℕ, ◌+◌, ◌^◌, List, length, codes, Option, Some, None, Result, Ok, Err}
+use Rattle.std.specs.Prelude.{◌≡◌, ◌⊎◌, ◌<◌, ℕ, List, length, codes, Some, Ok, Err}
 use Rattle.cil_base.specs.declared.rule.Rule.TheVariants.{Z1}
 use Rattle.cil_base.specs.declared.refusal.Refusal.{Refusal}
-use Rattle.cil_base.specs.Refusals.{First, NoneBroken, InTurn, Fails}
+use Rattle.cil_base.specs.Refusals.{NoneBroken, InTurn, Fails}
 use Rattle.pe_image.specs.Headers.{headers_of}
 use Rattle.pe_image.specs.Cli.{metadata_of}
 use Rattle.pe_image.specs.Growth.{growth_in}
@@ -15,7 +15,7 @@ use Rattle.cli_heaps.specs.Entries.{string_at}
 use Rattle.cli_heaps.specs.Growth.{Growths, no_growth}
 use Rattle.cli_heaps.specs.Written.{parts, written, limit_tests, IsWritten}
 use Rattle.cli_tables.specs.Layout.{tables_in}
-use Rattle.cli_tables.specs.Tables.{rows_in, cell_at, rows_of, AreIn}
+use Rattle.cli_tables.specs.Tables.{cell_at, AreIn}
 use Rattle.cli_tables.specs.TableRules.{HeaderBroken, RowsBroken}
 use Rattle.cli_tables.specs.Written.{stream_in, IsOverfull}
 
