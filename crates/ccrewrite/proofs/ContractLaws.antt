@@ -17,7 +17,7 @@ use Rattle.cli_heaps.specs.Root.{strings, is_zero}
 use Rattle.cli_heaps.specs.Entries.{string_at, until_zero}
 use Rattle.cli_tables.specs.Schema.{columns_of}
 use Rattle.cli_tables.specs.Tables.{column_of, cell_of, IsShaped, AreIn}
-use Rattle.ccrewrite.specs.Rewrite.{IsContractRow, IsFirstRow, HasContracts, contract_row, contracts_namespace}
+use Rattle.ccrewrite.specs.Rewrite.{IsContractRow, IsFirstRow, IsContract, contract_row, contracts_namespace}
 
 -- ---- the name, with the zero byte behind it
 
@@ -115,7 +115,7 @@ no_row meta ts t are none row x = let p = place_of meta ts t row are x in none p
 
 -- ---- the first refusal
 
-pub first_contracts : (meta : List ℕ) (t row : ℕ) → (t ≡ 1) ⊎ (t ≡ 2) → IsFirstRow meta t row → ((s : Refusal) → HasContracts meta s → t ≤ s.table) → First (HasContracts meta) (contract_row t row)
+pub first_contracts : (meta : List ℕ) (t row : ℕ) → (t ≡ 1) ⊎ (t ≡ 2) → IsFirstRow meta t row → ((s : Refusal) → IsContract meta s → t ≤ s.table) → First (IsContract meta) (contract_row t row)
 first_contracts meta t row which first above = record {
   broken = record { rule = refl; assembly = refl; table = which; row = first.there; at = refl };
   none_before = λ s x.
@@ -126,27 +126,27 @@ first_contracts meta t row which first above = record {
       not_less (rule_number s.rule) (rule_number Z1) [] [] (omega (arith, ap rule_number x.rule)) (λ _. refl)))));
 }
   where
-    later : (s : Refusal) → HasContracts meta s → s.table ≡ t → row ≤ s.row
+    later : (s : Refusal) → IsContract meta s → s.table ≡ t → row ≤ s.row
     later s x same = elim (cases_lt s.row row) [
       | inl less ↦ absurd (first.none_before s.row less (subst (λ (n : ℕ). IsContractRow meta n s.row) same x.row))
       | inr le ↦ le
     ]
 
-pub contracts_in_first : (meta : List ℕ) (row : ℕ) → IsFirstRow meta 1 row → First (HasContracts meta) (contract_row 1 row)
+pub contracts_in_first : (meta : List ℕ) (row : ℕ) → IsFirstRow meta 1 row → First (IsContract meta) (contract_row 1 row)
 contracts_in_first meta row first = first_contracts meta 1 row (inl refl) first (λ s x. go s x.table)
   where
     go : (s : Refusal) → (s.table ≡ 1) ⊎ (s.table ≡ 2) → 1 ≤ s.table
     go s (inl e) = omega (arith, e)
     go s (inr e) = omega (arith, e)
 
-pub contracts_in_second : (meta : List ℕ) (row : ℕ) → ((r : ℕ) → IsContractRow meta 1 r → ⊥) → IsFirstRow meta 2 row → First (HasContracts meta) (contract_row 2 row)
+pub contracts_in_second : (meta : List ℕ) (row : ℕ) → ((r : ℕ) → IsContractRow meta 1 r → ⊥) → IsFirstRow meta 2 row → First (IsContract meta) (contract_row 2 row)
 contracts_in_second meta row none first = first_contracts meta 2 row (inr refl) first (λ s x. go s x.row x.table)
   where
     go : (s : Refusal) → IsContractRow meta s.table s.row → (s.table ≡ 1) ⊎ (s.table ≡ 2) → 2 ≤ s.table
     go s x (inl e) = absurd (none s.row (subst (λ (n : ℕ). IsContractRow meta n s.row) e x))
     go s x (inr e) = omega (arith, e)
 
-pub no_contracts : (meta : List ℕ) → ((r : ℕ) → IsContractRow meta 1 r → ⊥) → ((r : ℕ) → IsContractRow meta 2 r → ⊥) → NoneBroken (HasContracts meta)
+pub no_contracts : (meta : List ℕ) → ((r : ℕ) → IsContractRow meta 1 r → ⊥) → ((r : ℕ) → IsContractRow meta 2 r → ⊥) → NoneBroken (IsContract meta)
 no_contracts meta one two s x = go x.row x.table
   where
     go : IsContractRow meta s.table s.row → (s.table ≡ 1) ⊎ (s.table ≡ 2) → ⊥

@@ -64,12 +64,15 @@ pub record IsFirstRow (meta : List ℕ) (table row : ℕ) : Type 0 where
   pub none_before : (before : ℕ) → before < row → IsContractRow meta table before → ⊥
 
 -- A TypeRef or TypeDef row of that namespace: the assembly has contracts, which aren't rewritten yet.
-pub record HasContracts (meta : List ℕ) (r : Refusal) : Type 0 where
+pub record IsContract (meta : List ℕ) (r : Refusal) : Type 0 where
   pub rule : r.rule ≡ Z1
   pub assembly : r.assembly ≡ 0
   pub table : (r.table ≡ 1) ⊎ (r.table ≡ 2)
   pub row : IsContractRow meta r.table r.row
   pub at : r.at ≡ 0
+
+abbrev pub HasContracts : List ℕ → Refusal → Type 0
+HasContracts bytes = IsContract (metadata_of bytes)
 
 abbrev pub contract_row : ℕ → ℕ → Refusal
 contract_row table row = record { rule = Z1; assembly = 0; table = table; row = row; at = 0 }
@@ -94,7 +97,7 @@ IsAssemblyRefusal bytes =
     (InTurn (heaps.Broken (metadata_of bytes) 0)
     (InTurn (HeaderBroken (metadata_of bytes) 0)
     (InTurn (RowsBroken (metadata_of bytes) 0)
-    (InTurn (HasContracts (metadata_of bytes))
+    (InTurn (HasContracts bytes)
     (AnyThen (PassesLimit bytes) (HasNoRoom bytes))))))
 
 -- None of them is broken.
@@ -103,6 +106,6 @@ pub record KeepsAssemblyRules (bytes : List ℕ) : Type 0 where
   pub root : NoneBroken (heaps.Broken (metadata_of bytes) 0)
   pub header : NoneBroken (HeaderBroken (metadata_of bytes) 0)
   pub rows : NoneBroken (RowsBroken (metadata_of bytes) 0)
-  pub contracts : NoneBroken (HasContracts (metadata_of bytes))
+  pub contracts : NoneBroken (HasContracts bytes)
   pub limits : NoneBroken (PassesLimit bytes)
   pub room : NoneBroken (HasNoRoom bytes)
