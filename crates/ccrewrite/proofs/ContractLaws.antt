@@ -1,24 +1,23 @@
 -- Rows of the namespace of Code Contracts, and the first of them.
-use Rattle.std.proofs.Common.{◌≡◌, ◌⊎◌, ℕ, zero, suc, ◌+◌, ◌-◌, ◌^◌, ◌<◌, ◌≤◌, eqb, ltb, Bool, true, false, cond, not, List, [], ◌∷◌, ◌++◌, length, get_or, take, drop, Option, Some, None, refl, sym, ap, ◌∙◌, subst, inl, inr, arith, add-one, option_map}
+use Rattle.std.proofs.Common.{◌≡◌, ◌⊎◌, ℕ, zero, suc, ◌+◌, ◌-◌, ◌^◌, ◌<◌, ◌≤◌, eqb, Bool, true, cond, List, [], ◌∷◌, ◌++◌, length, get_or, take, drop, Option, Some, None, refl, sym, ap, ◌∙◌, subst, inl, inr, arith, add-one, option_map}
 use Rattle.std.specs.Prelude.{slice_get, position}
-use Rattle.std.specs.List.{position_or_len, starts_with}
-use Rattle.std.specs.Str.{bytes_eq}
+use Rattle.std.specs.List.{starts_with}
 use Rattle.std.proofs.lemmas.Slice.Eq.{bytes_eq-Decides}
-use Rattle.std.proofs.lemmas.Bool.{cases_lt, lt-ltb, ne_eqb, eqb-true, ltb-true, ltb-false, eq-eqb}
+use Rattle.std.proofs.lemmas.Bool.{cases_lt, lt-ltb, ne_eqb, eqb-true}
 use Rattle.std.proofs.lemmas.List.{take_more, take-append-drop, length-append, length-take-le, get_or_past}
 use Rattle.std.proofs.lemmas.List.Quantifiers.{position-Some}
 use Rattle.std.proofs.lemmas.Option.{slice_get-get_or, slice_get_past, get_or_from_slice_get}
 use Rattle.cil_base.specs.declared.refusal.Refusal.{Refusal}
 use Rattle.cil_base.specs.declared.rule.Rule.TheVariants.{Z1}
 use Rattle.cil_base.specs.Rules.{rule_number}
-use Rattle.cil_base.specs.Refusals.{First, NoneBroken, key, is_less}
+use Rattle.cil_base.specs.Refusals.{First, NoneBroken}
 use Rattle.cil_base.proofs.RefusalLaws.{not_less}
 use Rattle.cli_heaps.specs.Root as root
 use Rattle.cli_heaps.specs.Root.{strings, is_zero}
 use Rattle.cli_heaps.specs.Entries.{string_at, until_zero}
 use Rattle.cli_tables.specs.Schema.{columns_of}
-use Rattle.cli_tables.specs.Tables.{column_of, rows_of, cell_of, cell_at, IsShaped, AreIn}
-use Rattle.ccrewrite.specs.Rewrite.{IsContractRow, IsFirstRow, HasContracts, contract_row, contracts_namespace}
+use Rattle.cli_tables.specs.Tables.{column_of, cell_of, IsShaped, AreIn}
+use Rattle.ccrewrite.specs.Rewrite.{IsContractRow, IsFirstRow, IsContract, contract_row, contracts_namespace}
 
 -- ---- the name, with the zero byte behind it
 
@@ -77,10 +76,11 @@ pub record IsPlace (meta : List ℕ) (ts : List (List (List ℕ))) (t row : ℕ)
   pub name : string_at (strings meta) (get_or (column_of ts t 2) k 0) ≡ Some contracts_namespace
 
 pub row_there : (meta : List ℕ) (ts : List (List (List ℕ))) (t k : ℕ) → AreIn (root.tables meta) ts → k < length (column_of ts t 2) → string_at (strings meta) (get_or (column_of ts t 2) k 0) ≡ Some contracts_namespace → IsContractRow meta t (k + 1)
-row_there meta ts t k are lt name =
-    (get_or (column_of ts t 2) k 0,
-     sym (are.cells t (k + 1) 2) ∙ ap (λ (r : ℕ). cell_of ts t r 2) (add-one k) ∙ at_row ts t k 2 ∙ slice_get-get_or (column_of ts t 2) k 0 lt,
-     name)
+row_there meta ts t k are lt name = (
+  get_or (column_of ts t 2) k 0,
+  sym (are.cells t (k + 1) 2) ∙ ap (λ (r : ℕ). cell_of ts t r 2) (add-one k) ∙ at_row ts t k 2 ∙ slice_get-get_or (column_of ts t 2) k 0 lt,
+  name,
+)
 
 pub place_of : (meta : List ℕ) (ts : List (List (List ℕ))) (t row : ℕ) → AreIn (root.tables meta) ts → IsContractRow meta t row → IsPlace meta ts t row
 place_of meta ts t zero are x = absurd (none (are.cells t zero 2 ∙ x.1))
@@ -115,7 +115,7 @@ no_row meta ts t are none row x = let p = place_of meta ts t row are x in none p
 
 -- ---- the first refusal
 
-pub first_contracts : (meta : List ℕ) (t row : ℕ) → (t ≡ 1) ⊎ (t ≡ 2) → IsFirstRow meta t row → ((s : Refusal) → HasContracts meta s → t ≤ s.table) → First (HasContracts meta) (contract_row t row)
+pub first_contracts : (meta : List ℕ) (t row : ℕ) → (t ≡ 1) ⊎ (t ≡ 2) → IsFirstRow meta t row → ((s : Refusal) → IsContract meta s → t ≤ s.table) → First (IsContract meta) (contract_row t row)
 first_contracts meta t row which first above = record {
   broken = record { rule = refl; assembly = refl; table = which; row = first.there; at = refl };
   none_before = λ s x.
@@ -126,27 +126,27 @@ first_contracts meta t row which first above = record {
       not_less (rule_number s.rule) (rule_number Z1) [] [] (omega (arith, ap rule_number x.rule)) (λ _. refl)))));
 }
   where
-    later : (s : Refusal) → HasContracts meta s → s.table ≡ t → row ≤ s.row
+    later : (s : Refusal) → IsContract meta s → s.table ≡ t → row ≤ s.row
     later s x same = elim (cases_lt s.row row) [
       | inl less ↦ absurd (first.none_before s.row less (subst (λ (n : ℕ). IsContractRow meta n s.row) same x.row))
       | inr le ↦ le
     ]
 
-pub contracts_in_first : (meta : List ℕ) (row : ℕ) → IsFirstRow meta 1 row → First (HasContracts meta) (contract_row 1 row)
+pub contracts_in_first : (meta : List ℕ) (row : ℕ) → IsFirstRow meta 1 row → First (IsContract meta) (contract_row 1 row)
 contracts_in_first meta row first = first_contracts meta 1 row (inl refl) first (λ s x. go s x.table)
   where
     go : (s : Refusal) → (s.table ≡ 1) ⊎ (s.table ≡ 2) → 1 ≤ s.table
     go s (inl e) = omega (arith, e)
     go s (inr e) = omega (arith, e)
 
-pub contracts_in_second : (meta : List ℕ) (row : ℕ) → ((r : ℕ) → IsContractRow meta 1 r → ⊥) → IsFirstRow meta 2 row → First (HasContracts meta) (contract_row 2 row)
+pub contracts_in_second : (meta : List ℕ) (row : ℕ) → ((r : ℕ) → IsContractRow meta 1 r → ⊥) → IsFirstRow meta 2 row → First (IsContract meta) (contract_row 2 row)
 contracts_in_second meta row none first = first_contracts meta 2 row (inr refl) first (λ s x. go s x.row x.table)
   where
     go : (s : Refusal) → IsContractRow meta s.table s.row → (s.table ≡ 1) ⊎ (s.table ≡ 2) → 2 ≤ s.table
     go s x (inl e) = absurd (none s.row (subst (λ (n : ℕ). IsContractRow meta n s.row) e x))
     go s x (inr e) = omega (arith, e)
 
-pub no_contracts : (meta : List ℕ) → ((r : ℕ) → IsContractRow meta 1 r → ⊥) → ((r : ℕ) → IsContractRow meta 2 r → ⊥) → NoneBroken (HasContracts meta)
+pub no_contracts : (meta : List ℕ) → ((r : ℕ) → IsContractRow meta 1 r → ⊥) → ((r : ℕ) → IsContractRow meta 2 r → ⊥) → NoneBroken (IsContract meta)
 no_contracts meta one two s x = go x.row x.table
   where
     go : IsContractRow meta s.table s.row → (s.table ≡ 1) ⊎ (s.table ≡ 2) → ⊥

@@ -1,5 +1,5 @@
 -- An assembly written anew: what its parts say of it.
-use Rattle.std.proofs.Common.{◌≡◌, ◌⊎◌, ℕ, ◌+◌, ◌-◌, ◌^◌, ◌<◌, ◌≤◌, eqb, ltb, Bool, true, false, cond, not, ◌&&◌, ◌||◌, List, [], length, Option, Some, None, option_map, take, drop, Result, Ok, Err, refl, sym, ap, ◌∙◌, subst, inl, inr, arith}
+use Rattle.std.proofs.Common.{◌≡◌, ◌⊎◌, ℕ, ◌-◌, ◌^◌, ◌≤◌, eqb, ltb, Bool, true, false, cond, not, ◌||◌, List, [], length, Option, Some, None, option_map, take, drop, Result, Ok, Err, refl, sym, ap, ◌∙◌, subst, inl, inr, arith}
 use Rattle.std.specs.Prelude.{IfOk, OnOk, unwrap_or}
 use Rattle.std.proofs.lemmas.List.{take_all, take-append-drop, length-append, length-drop}
 use Rattle.std.proofs.lemmas.Bool.{cases_Bool, and_parts, eqb-true}
@@ -21,10 +21,10 @@ use Rattle.cli_heaps.specs.Root.{Metadata}
 use Rattle.cli_heaps.specs.RootRules as heaps
 use Rattle.cli_heaps.specs.Written.{parts, written, limit_tests, IsWritten}
 use Rattle.cli_tables.specs.Layout.{tables_in}
-use Rattle.cli_tables.specs.Tables.{rows_in, rows_of, AreIn}
+use Rattle.cli_tables.specs.Tables.{rows_in, AreIn}
 use Rattle.cli_tables.specs.TableRules.{HeaderBroken, RowsBroken, has_unread, is_one_assembly}
 use Rattle.cli_tables.specs.Written.{stream_in, NoneFull, IsOverfull, AreOfOne}
-use Rattle.ccrewrite.specs.Rewrite.{no_growths, tables_of, new_stream, new_metadata, KeepsRows, HasContracts, PassesLimit, HasNoRoom, AnyThen, IsAssemblyRefusal, KeepsAssemblyRules}
+use Rattle.ccrewrite.specs.Rewrite.{no_growths, tables_of, new_metadata, KeepsRows, IsContract, PassesLimit, HasNoRoom, AnyThen, IsAssemblyRefusal, KeepsAssemblyRules}
 
 -- ---- answers
 
@@ -157,20 +157,20 @@ pub record Clean (bytes : List ℕ) : Type 0 where
   pub root : NoneBroken (heaps.Broken (metadata_of bytes) 0)
   pub header : NoneBroken (HeaderBroken (metadata_of bytes) 0)
   pub rows : NoneBroken (RowsBroken (metadata_of bytes) 0)
-  pub contracts : NoneBroken (HasContracts (metadata_of bytes))
+  pub contracts : NoneBroken (IsContract (metadata_of bytes))
 
 -- limits of the metadata of these tables
 abbrev pub Limits : List ℕ → List (List (List ℕ)) → Refusal → Type 0
 Limits meta ts r = IsOverfull ts r ⊎ Fails (limit_tests meta (no_growths meta) (stream_in meta (no_growths meta) ts)) r
 
 module _ (bytes meta : List ℕ) (e : meta ≡ metadata_of bytes) where
-  pub clean : NoneBroken (image.Broken bytes 0) → NoneBroken (heaps.Broken meta 0) → NoneBroken (HeaderBroken meta 0) → NoneBroken (RowsBroken meta 0) → NoneBroken (HasContracts meta) → Clean bytes
+  pub clean : NoneBroken (image.Broken bytes 0) → NoneBroken (heaps.Broken meta 0) → NoneBroken (HeaderBroken meta 0) → NoneBroken (RowsBroken meta 0) → NoneBroken (IsContract meta) → Clean bytes
   clean a b c d f = record {
     image = a;
     root = subst (λ (x : List ℕ). NoneBroken (heaps.Broken x 0)) e b;
     header = subst (λ (x : List ℕ). NoneBroken (HeaderBroken x 0)) e c;
     rows = subst (λ (x : List ℕ). NoneBroken (RowsBroken x 0)) e d;
-    contracts = subst (λ (x : List ℕ). NoneBroken (HasContracts x)) e f;
+    contracts = subst (λ (x : List ℕ). NoneBroken (IsContract x)) e f;
   }
 
   pub refused_root : (r : Refusal) → NoneBroken (image.Broken bytes 0) → First (heaps.Broken meta 0) r → IsAssemblyRefusal bytes r
@@ -180,17 +180,32 @@ module _ (bytes meta : List ℕ) (e : meta ≡ metadata_of bytes) where
   tables_refused r a b (inl f) =
       inr (a, inr (subst (λ (x : List ℕ). NoneBroken (heaps.Broken x 0)) e b, inl (subst (λ (x : List ℕ). First (HeaderBroken x 0) r) e f)))
   tables_refused r a b (inr f) =
-      inr (a, inr (subst (λ (x : List ℕ). NoneBroken (heaps.Broken x 0)) e b,
-      inr (subst (λ (x : List ℕ). NoneBroken (HeaderBroken x 0)) e f.0, inl (subst (λ (x : List ℕ). First (RowsBroken x 0) r) e f.1))))
+      inr (
+        a,
+        inr (
+          subst (λ (x : List ℕ). NoneBroken (heaps.Broken x 0)) e b,
+          inr (subst (λ (x : List ℕ). NoneBroken (HeaderBroken x 0)) e f.0, inl (subst (λ (x : List ℕ). First (RowsBroken x 0) r) e f.1)),
+        ),
+      )
 
   pub refused_tables : (fault : Fault) → NoneBroken (image.Broken bytes 0) → NoneBroken (heaps.Broken meta 0) → IfRefused fault (InTurn (HeaderBroken meta 0) (First (RowsBroken meta 0))) → IfRefused fault (IsAssemblyRefusal bytes)
   refused_tables fault a b f = IfRefused-weaker fault (InTurn (HeaderBroken meta 0) (First (RowsBroken meta 0))) (IsAssemblyRefusal bytes) (λ r x. tables_refused r a b x) f
 
-  pub refused_contracts : (r : Refusal) → NoneBroken (image.Broken bytes 0) → NoneBroken (heaps.Broken meta 0) → NoneBroken (HeaderBroken meta 0) → NoneBroken (RowsBroken meta 0) → First (HasContracts meta) r → IsAssemblyRefusal bytes r
+  pub refused_contracts : (r : Refusal) → NoneBroken (image.Broken bytes 0) → NoneBroken (heaps.Broken meta 0) → NoneBroken (HeaderBroken meta 0) → NoneBroken (RowsBroken meta 0) → First (IsContract meta) r → IsAssemblyRefusal bytes r
   refused_contracts r a b c d f =
-      inr (a, inr (subst (λ (x : List ℕ). NoneBroken (heaps.Broken x 0)) e b,
-      inr (subst (λ (x : List ℕ). NoneBroken (HeaderBroken x 0)) e c, inr (subst (λ (x : List ℕ). NoneBroken (RowsBroken x 0)) e d,
-      inl (subst (λ (x : List ℕ). First (HasContracts x) r) e f)))))
+      inr (
+        a,
+        inr (
+          subst (λ (x : List ℕ). NoneBroken (heaps.Broken x 0)) e b,
+          inr (
+            subst (λ (x : List ℕ). NoneBroken (HeaderBroken x 0)) e c,
+            inr (
+              subst (λ (x : List ℕ). NoneBroken (RowsBroken x 0)) e d,
+              inl (subst (λ (x : List ℕ). First (IsContract x) r) e f),
+            ),
+          ),
+        ),
+      )
 
   module _ (ts : List (List (List ℕ))) (t : ts ≡ tables_in (root.tables meta)) (none : Clean bytes) where
     passes : (r : Refusal) → Limits meta ts r → PassesLimit bytes r

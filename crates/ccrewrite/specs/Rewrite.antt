@@ -1,8 +1,8 @@
 -- What `rewrite` makes of one assembly without contracts: the same rows in a grown image, with its metadata in a section of their own.
-use Rattle.std.specs.Prelude.{◌≡◌, ◌⊎◌, ◌<◌, ◌≤◌, ℕ, ◌+◌, ◌^◌, List, length, codes, Option, Some, None, Result, Ok, Err}
+use Rattle.std.specs.Prelude.{◌≡◌, ◌⊎◌, ◌<◌, ℕ, List, length, codes, Some, Ok, Err}
 use Rattle.cil_base.specs.declared.rule.Rule.TheVariants.{Z1}
 use Rattle.cil_base.specs.declared.refusal.Refusal.{Refusal}
-use Rattle.cil_base.specs.Refusals.{First, NoneBroken, InTurn, Fails}
+use Rattle.cil_base.specs.Refusals.{NoneBroken, InTurn, Fails}
 use Rattle.pe_image.specs.Headers.{headers_of}
 use Rattle.pe_image.specs.Cli.{metadata_of}
 use Rattle.pe_image.specs.Growth.{growth_in}
@@ -15,7 +15,7 @@ use Rattle.cli_heaps.specs.Entries.{string_at}
 use Rattle.cli_heaps.specs.Growth.{Growths, no_growth}
 use Rattle.cli_heaps.specs.Written.{parts, written, limit_tests, IsWritten}
 use Rattle.cli_tables.specs.Layout.{tables_in}
-use Rattle.cli_tables.specs.Tables.{rows_in, cell_at, rows_of, AreIn}
+use Rattle.cli_tables.specs.Tables.{cell_at, AreIn}
 use Rattle.cli_tables.specs.TableRules.{HeaderBroken, RowsBroken}
 use Rattle.cli_tables.specs.Written.{stream_in, IsOverfull}
 
@@ -64,12 +64,15 @@ pub record IsFirstRow (meta : List ℕ) (table row : ℕ) : Type 0 where
   pub none_before : (before : ℕ) → before < row → IsContractRow meta table before → ⊥
 
 -- A TypeRef or TypeDef row of that namespace: the assembly has contracts, which aren't rewritten yet.
-pub record HasContracts (meta : List ℕ) (r : Refusal) : Type 0 where
+pub record IsContract (meta : List ℕ) (r : Refusal) : Type 0 where
   pub rule : r.rule ≡ Z1
   pub assembly : r.assembly ≡ 0
   pub table : (r.table ≡ 1) ⊎ (r.table ≡ 2)
   pub row : IsContractRow meta r.table r.row
   pub at : r.at ≡ 0
+
+abbrev pub HasContracts : List ℕ → Refusal → Type 0
+HasContracts bytes = IsContract (metadata_of bytes)
 
 abbrev pub contract_row : ℕ → ℕ → Refusal
 contract_row table row = record { rule = Z1; assembly = 0; table = table; row = row; at = 0 }
@@ -94,7 +97,7 @@ IsAssemblyRefusal bytes =
     (InTurn (heaps.Broken (metadata_of bytes) 0)
     (InTurn (HeaderBroken (metadata_of bytes) 0)
     (InTurn (RowsBroken (metadata_of bytes) 0)
-    (InTurn (HasContracts (metadata_of bytes))
+    (InTurn (HasContracts bytes)
     (AnyThen (PassesLimit bytes) (HasNoRoom bytes))))))
 
 -- None of them is broken.
@@ -103,6 +106,6 @@ pub record KeepsAssemblyRules (bytes : List ℕ) : Type 0 where
   pub root : NoneBroken (heaps.Broken (metadata_of bytes) 0)
   pub header : NoneBroken (HeaderBroken (metadata_of bytes) 0)
   pub rows : NoneBroken (RowsBroken (metadata_of bytes) 0)
-  pub contracts : NoneBroken (HasContracts (metadata_of bytes))
+  pub contracts : NoneBroken (HasContracts bytes)
   pub limits : NoneBroken (PassesLimit bytes)
   pub room : NoneBroken (HasNoRoom bytes)

@@ -5,7 +5,7 @@ ghost use Rattle.cli_heaps.specs.Root as root;
 ghost use Rattle.cli_heaps.specs.Root.{strings};
 ghost use Rattle.cli_heaps.specs.Entries.{string_at};
 ghost use Rattle.cli_tables.specs.Tables.{AreIn};
-ghost use Rattle.ccrewrite.specs.Rewrite.{IsContractRow, IsFirstRow, HasContracts, contract_row, contracts_namespace};
+ghost use Rattle.ccrewrite.specs.Rewrite.{IsContractRow, IsFirstRow, IsContract, contract_row, contracts_namespace};
 
 use cil_base::{Refusal, Rule};
 use cli_heaps::Heaps;
@@ -57,7 +57,7 @@ fn contract_row(table: u8, row: u32) -> Refusal
 /// Z1 at the first TypeRef row, or else the first TypeDef row, of that namespace.
 pub(crate) fn first_contract_row(tables: &Tables, heaps: &Heaps<'_>) -> Option<Refusal>
     requires { AreIn (root.tables heaps.now.bytes) tables.now }
-    ensures { MatchOption result (NoneBroken (HasContracts heaps.now.bytes)) (First (HasContracts heaps.now.bytes)) }
+    ensures { MatchOption result (NoneBroken (IsContract heaps.now.bytes)) (First (IsContract heaps.now.bytes)) }
 {
     if let Some(row) = first_row(tables, heaps, 1) {
         return Some(contract_row(1, row));

@@ -1,4 +1,4 @@
-use Rattle.std.proofs.Common.{◌≡◌, ◌∙◌, ◌<◌, ◌≤◌, ◌^◌, ℕ, List, length, Ok, Err, ap, subst, arith}
+use Rattle.std.proofs.Common.{◌≡◌, ◌∙◌, ℕ, List, length, Ok, Err, ap, subst, arith}
 use Rattle.std.specs.Prelude.{IfOk, OnOk}
 use Rattle.cil_base.specs.declared.refusal.Refusal.{Refusal}
 use Rattle.cil_base.specs.Refusals.{NoneBroken, OnRefused}
@@ -12,7 +12,7 @@ use Rattle.cli_heaps.specs.Root as root
 use Rattle.cli_heaps.specs.RootRules as heaps
 use Rattle.cli_tables.specs.Tables.{AreIn}
 use Rattle.cli_tables.specs.Written.{stream_in}
-use Rattle.ccrewrite.specs.Rewrite.{no_growths, tables_of, new_metadata}
+use Rattle.ccrewrite.specs.Rewrite.{no_growths, new_metadata}
 use Rattle.ccrewrite.proofs.RewriteLaws.{short_metadata, metadata_read, root_read, of_bytes, one_each, metadata_is, streams_are, tables_are, done, Clean, clean, refused_tables, refused_contracts, refused_limits, refused_room, keeps}
 use Rattle.ccrewrite.proofs.rewrite.rewrite_assembly.Goals as goal
 
