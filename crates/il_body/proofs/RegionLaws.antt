@@ -1,14 +1,12 @@
 -- The regions of a body that is read can be written.
-use Rattle.std.proofs.Common.{◌≡◌, ◌≢◌, ℕ, zero, suc, ◌+◌, ◌-◌, ◌*◌, ◌/◌, ◌%◌, ◌^◌, ◌<◌, ◌≤◌, Bool, true, false, cond, ◌&&◌, List, [], ◌∷◌, ◌++◌, length, drop, get_or, Option, Some, None, Ok, refl, sym, ap, ◌∙◌, subst, arith, length-append, ⊎_elim}
-use Rattle.std.specs.Prelude.{IfSome, nat_le, ◌==◌}
+use Rattle.std.proofs.Common.{◌≡◌, ℕ, zero, suc, ◌+◌, ◌*◌, ◌^◌, ◌<◌, ◌≤◌, Bool, true, false, cond, List, [], ◌∷◌, ◌++◌, length, drop, get_or, Option, Some, None, refl, subst, arith, length-append, ⊎_elim}
+use Rattle.std.specs.Prelude.{nat_le, ◌==◌}
 use Rattle.std.specs.List.{list_all}
-use Rattle.std.specs.Option.{option_map, option_and_then}
+use Rattle.std.specs.Option.{option_map}
 use Rattle.std.proofs.Math.ListN.{get_or-append}
 use Rattle.std.proofs.lemmas.Bool.{cases_lt}
 use Rattle.std.proofs.lemmas.Grind.{common_steps}
 use Rattle.std.proofs.lemmas.List.Quantifiers.{position-Some}
-use Rattle.cil_base.specs.declared.token.Token.{Token}
-use Rattle.cil_base.specs.Numbers.{num}
 use Rattle.cil_base.specs.Tokens.{token_of}
 use Rattle.cil_model.specs.declared.body.Instr.{Instr}
 use Rattle.cil_model.specs.declared.body.Region.{Region}
@@ -138,9 +136,9 @@ in_order offsets size from count i j rise e f =
     let second = q.0 in
     let le : i ≤ j = ⊎_elim
     (λ lt.
-        let r = rise j i lt first in
-        let same = get_or-append offsets (size ∷ []) 0 j (omega arith) in
-        let x = p.1 in let y = q.1 in absurd (omega arith))
+    let r = rise j i lt first in
+    let same = get_or-append offsets (size ∷ []) 0 j (omega arith) in
+    let x = p.1 in let y = q.1 in absurd (omega arith))
     (λ ge. ge)
     (cases_lt j i) in
     (first, omega arith, le)
@@ -151,6 +149,7 @@ kind_valid offsets c kind small h = go (c.flags == 0) (c.flags == 1) (c.flags ==
     filter : (o : Option ℕ) → place_of offsets c.last ≡ o → option_map Filter o ≡ Some kind → IsValidKind (length offsets) kind
     filter None e h = absurd cc
     filter (Some k) e h = let same : Filter k ≡ kind = cc in subst (IsValidKind (length offsets)) same (place_at offsets c.last k e).0
+
     go : (p q r s : Bool) → cond {A = Option RegionKind} p (Some (Catch (token_of c.last))) (cond q (option_map Filter (place_of offsets c.last)) (cond r (Some Finally) (cond s (Some Fault) None))) ≡ Some kind → IsValidKind (length offsets) kind
     go true q r s h = let same : Catch (token_of c.last) ≡ kind = cc in subst (IsValidKind (length offsets)) same (small_token c.last small)
     go false true r s h = filter (place_of offsets c.last) refl h

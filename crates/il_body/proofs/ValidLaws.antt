@@ -1,11 +1,11 @@
 -- A body that is read can be written.
-use Rattle.std.proofs.Common.{◌≡◌, ℕ, zero, suc, ◌+◌, ◌*◌, ◌/◌, ◌%◌, ◌^◌, ◌<◌, ◌≤◌, Bool, true, false, cond, ◌&&◌, List, [], ◌∷◌, length, drop, take, Option, Some, None, refl, sym, ap, ◌∙◌, subst, arith}
+use Rattle.std.proofs.Common.{◌≡◌, ℕ, zero, suc, ◌+◌, ◌%◌, ◌^◌, ◌<◌, Bool, true, false, cond, ◌&&◌, List, [], ◌∷◌, length, drop, take, Option, Some, None, refl, sym, ap, ◌∙◌, subst, arith}
 use Rattle.std.specs.Prelude.{IfSome, is_some, nat_le, ◌==◌}
 use Rattle.std.specs.Option.{option_map}
 use Rattle.std.proofs.lemmas.List.Quantifiers.{position-Some}
 use Rattle.cil_base.specs.declared.token.Token.{Token}
 use Rattle.cil_base.specs.Numbers.{num}
-use Rattle.cil_base.specs.Tokens.{token_of, token_number}
+use Rattle.cil_base.specs.Tokens.{token_of}
 use Rattle.cil_model.specs.declared.body.Body.{Body}
 use Rattle.cil_model.specs.declared.body.Instr.{Instr}
 use Rattle.cil_model.specs.declared.body.Operand.{Operand}
