@@ -118,7 +118,7 @@ small_from i (suc n) bytes b =
 pub bytes_drop : (n : ℕ) (bytes : List ℕ) → AreBytes bytes → AreBytes (drop n bytes)
 bytes_drop n bytes b k = rw (get_or-drop n bytes k 0) (b (n + k))
 
-small_num : (bytes : List ℕ) (at n : ℕ) → AreBytes bytes → num bytes at n < 256 ^ n
+pub small_num : (bytes : List ℕ) (at n : ℕ) → AreBytes bytes → num bytes at n < 256 ^ n
 unfolding num
 small_num bytes at n b = small_from 0 n (drop at bytes) (bytes_drop at bytes b)
 

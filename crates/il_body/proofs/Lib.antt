@@ -12,3 +12,4 @@ pub mod PushLaws
 pub mod KindLaws
 pub mod ReadLaws
 pub mod ValidLaws
+pub mod RegionLaws

@@ -1,6 +1,6 @@
 -- The spelling of an instruction is found again by its code.
-use Rattle.std.proofs.Common.{◌≡◌, ◌⊎◌, ⊎_elim, ℕ, ◌+◌, ◌%◌, ◌<◌, ◌≤◌, Bool, true, false, cond, ◌&&◌, ◌||◌, List, [], ◌∷◌, ◌++◌, length, Option, Some, Ok, refl, inl, inr, subst, arith}
-use Rattle.std.specs.Prelude.{nat_le, nat_lt, ◌==◌, find}
+use Rattle.std.proofs.Common.{◌≡◌, ◌⊎◌, ⊎_elim, ℕ, ◌+◌, ◌%◌, ◌<◌, ◌≤◌, Bool, true, false, cond, ◌&&◌, ◌||◌, List, [], ◌∷◌, ◌++◌, length, Option, Some, Ok, refl, inl, inr, subst, arith, zero, suc, sym, ◌∙◌}
+use Rattle.std.specs.Prelude.{nat_le, nat_lt, not, slice_get, ◌==◌, find}
 use Rattle.std.specs.List.{list_all}
 use Rattle.std.proofs.lemmas.Bool.{leb-true}
 use Rattle.std.proofs.lemmas.Grind.{common_steps}
@@ -11,7 +11,7 @@ use Rattle.cil_model.specs.declared.opcode.OperandKind.{OperandKind}
 use Rattle.cil_model.specs.declared.opcode.OperandKind.TheVariants as op
 use Rattle.cil_model.specs.Opcodes.{opcode_of, the_opcodes}
 use Rattle.cil_model.specs.BodyCode.{opcode_at}
-use Rattle.il_body.specs.BodyEncoding.{code_bytes, spelling_of, takes}
+use Rattle.il_body.specs.BodyEncoding.{AreShortest, code_bytes, spelling_of, spelling_room, takes}
 use Rattle.il_body.proofs.Encoding.{both, decide}
 
 pub split : {X : Type 0} (b : Bool) (x o : X) (r : Option X) → cond b (Some x) r ≡ Some o → ((b ≡ true) × (x ≡ o)) ⊎ ((b ≡ false) × (r ≡ Some o))
@@ -115,3 +115,60 @@ no_type kind operand t e = go operand (subst (λ (k : OperandKind). takes k oper
     go (Target k) h = cc
     go (Targets ks) h = cc
     go (Tok a token) h = cc
+
+-- ---- and none is shorter
+
+abbrev is_short_branch : OperandKind → Bool
+is_short_branch op.Target8 = true
+is_short_branch kind = false
+
+abbrev no_shorter : Opcode → Opcode → Bool
+no_shorter o q = not (q.long == o.long) || is_short_branch q.operand || nat_le (spelling_room o) (spelling_room q)
+
+abbrev in_order : List Opcode → Bool
+in_order [] = true
+in_order (o ∷ os) = list_all (no_shorter o) os && in_order os
+
+all_in_order : in_order the_opcodes ≡ true
+unfolding the_opcodes
+all_in_order = refl
+
+all_at : (r : Opcode → Bool) (os : List Opcode) (k : ℕ) (q : Opcode) → list_all r os ≡ true → slice_get os k ≡ Some q → r q ≡ true
+all_at r [] k q h e = absurd cc
+all_at r (o ∷ os) zero q h e = let same : o ≡ q = cc in subst (λ (x : Opcode). r x ≡ true) same (both (r o) (list_all r os) h).0
+all_at r (o ∷ os) (suc k) q h e = all_at r os k q (both (r o) (list_all r os) h).1 e
+
+long_enough : (same short : Bool) (m n : ℕ) → (not same || short || nat_le m n) ≡ true → same ≡ true → short ≡ false → m ≤ n
+long_enough true true m n h s b = absurd cc
+long_enough true false m n h s b = leb-true m n h
+long_enough false short m n h s b = absurd cc
+
+no_branch : (kind : OperandKind) (operand : Operand) → takes kind operand ≡ true → is_short_branch kind ≡ false
+no_branch op.Target8 Nothing h = absurd cc
+no_branch op.Target8 (Int z) h = absurd cc
+no_branch op.Target8 (Index k) h = absurd cc
+no_branch op.Target8 (Target k) h = absurd cc
+no_branch op.Target8 (Targets ks) h = absurd cc
+no_branch op.Target8 (Tok a token) h = absurd cc
+no_branch kind operand h = refl
+
+first_is_shortest : (code : ℕ) (operand : Operand) (os : List Opcode) (o q : Opcode) (k : ℕ) → in_order os ≡ true → find (λ (x : Opcode). (x.long == code) && takes x.operand operand) os ≡ Some o → slice_get os k ≡ Some q → q.long ≡ code → takes q.operand operand ≡ true → spelling_room o ≤ spelling_room q
+first_is_shortest code operand [] o q k ordered f e long t = absurd cc
+first_is_shortest code operand (x ∷ os) o q zero ordered f e long t =
+    let here : x ≡ q = cc in
+    let test : ((q.long == code) && takes q.operand operand) ≡ true = rw (long, t, same code) refl in
+    let first : ((x.long == code) && takes x.operand operand) ≡ true = subst (λ (y : Opcode). ((y.long == code) && takes y.operand operand) ≡ true) (sym here) test in
+    ⊎_elim (λ s. subst (λ (y : Opcode). spelling_room y ≤ spelling_room q) (sym here ∙ s.1) (omega arith)) (λ s. absurd cc) (split ((x.long == code) && takes x.operand operand) x o (find (λ (x : Opcode). (x.long == code) && takes x.operand operand) os) f)
+first_is_shortest code operand (x ∷ os) o q (suc k) ordered f e long t =
+    let b = both (list_all (no_shorter x) os) (in_order os) ordered in
+    ⊎_elim
+    (λ s.
+    let test = both (x.long == code) (takes x.operand operand) s.0 in
+    let alike : (q.long == x.long) ≡ true = rw (long, equal x.long code test.0, same code) refl in
+    let le = long_enough (q.long == x.long) (is_short_branch q.operand) (spelling_room x) (spelling_room q) (all_at (no_shorter x) os k q b.0 e) alike (no_branch q.operand operand t) in
+    subst (λ (y : Opcode). spelling_room y ≤ spelling_room q) s.1 le)
+    (λ s. first_is_shortest code operand os o q k b.1 s.1 e long t)
+    (split ((x.long == code) && takes x.operand operand) x o (find (λ (x : Opcode). (x.long == code) && takes x.operand operand) os) f)
+
+pub are_shortest : AreShortest
+are_shortest code operand o q k f e long t = first_is_shortest code operand the_opcodes o q k all_in_order f e long t

@@ -1,18 +1,25 @@
--- The instructions of a body that is read can be written.
-use Rattle.std.proofs.Common.{◌≡◌, ℕ, zero, suc, ◌+◌, ◌<◌, List, [], ◌∷◌, length, drop, take, Option, Some, None, refl, sym, ap, ◌∙◌, subst, arith}
-use Rattle.std.specs.Prelude.{is_some, ◌==◌}
+-- A body that is read can be written.
+use Rattle.std.proofs.Common.{◌≡◌, ℕ, zero, suc, ◌+◌, ◌%◌, ◌^◌, ◌<◌, Bool, true, false, cond, ◌&&◌, List, [], ◌∷◌, length, drop, take, Option, Some, None, refl, sym, ap, ◌∙◌, subst, arith}
+use Rattle.std.specs.Prelude.{IfSome, is_some, nat_le, ◌==◌}
 use Rattle.std.specs.Option.{option_map}
 use Rattle.std.proofs.lemmas.List.Quantifiers.{position-Some}
+use Rattle.cil_base.specs.declared.token.Token.{Token}
+use Rattle.cil_base.specs.Numbers.{num}
+use Rattle.cil_base.specs.Tokens.{token_of}
 use Rattle.cil_model.specs.declared.body.Body.{Body}
 use Rattle.cil_model.specs.declared.body.Instr.{Instr}
 use Rattle.cil_model.specs.declared.body.Operand.{Operand}
 use Rattle.cil_model.specs.declared.body.Operand.TheVariants.{Nothing, Int, Index, Target, Targets, Tok}
-use Rattle.cil_model.specs.SmallCode.{Reads}
-use Rattle.cil_model.specs.BodyLayout.{code_of}
+use Rattle.cil_model.specs.declared.layout.Layout.{Layout}
+use Rattle.cil_model.specs.declared.layout.MethodHeader.{MethodHeader}
+use Rattle.cil_model.specs.declared.layout.RawClause.{RawClause}
+use Rattle.cil_model.specs.SmallCode.{Reads, locals_number}
+use Rattle.cil_model.specs.BodyLayout.{are_fat_flags, behind_code, code_of, fat_header, header_of, if_fat, laid_out, layout_of, locals_of, tiny_header, with_clauses}
 use Rattle.cil_model.specs.BodyOf.{IsInstr, StandsFor, and_all, mapped, place_of, placed, placed_operand}
-use Rattle.il_body.specs.BodyEncoding.{AllBelow, AllValid, AreBytes, IsValidInstr, IsValidOperand, spelling_of}
-use Rattle.il_body.proofs.KindLaws.{bytes_drop}
+use Rattle.il_body.specs.BodyEncoding.{AllBelow, AllValid, AllValidRegions, AreBytes, IsSmallToken, IsValid, IsValidInstr, IsValidOperand, spelling_of}
+use Rattle.il_body.proofs.KindLaws.{bytes_drop, small_num}
 use Rattle.il_body.proofs.ReadLaws.{IsRead, IsReadOperand, is_read}
+use Rattle.il_body.proofs.RegionLaws.{regions_valid}
 
 abbrev AllRead : ℕ → List Instr → Type 0
 AllRead a [] = Unit {0}
@@ -97,11 +104,61 @@ bytes_take (suc n) [] b k = omega arith
 bytes_take (suc n) (x ∷ bytes) b zero = b 0
 bytes_take (suc n) (x ∷ bytes) b (suc k) = bytes_take n bytes (λ j. b (suc j)) k
 
-pub instrs_valid : (a : ℕ) (bytes : List ℕ) (body : Body) (len : ℕ) → AreBytes bytes → StandsFor a bytes body len → AllValid a (length body.instrs) body.instrs
-instrs_valid a bytes body len b s =
+small_header : (v : ℕ) → v < 2 ^ 32 → locals_number (locals_of v) < 2 ^ 32
+small_header v h = go (v == 0)
+  where
+    go : (b : Bool) → locals_number (cond b None (Some (token_of v))) < 2 ^ 32
+    go true = omega arith
+    go false = omega arith
+
+abbrev HasSmall : Option MethodHeader → Type 0
+HasSmall None = Unit {0}
+HasSmall (Some h) = locals_number h.locals < 2 ^ 32
+
+small_fat : (bytes : List ℕ) (b : Bool) (flags : ℕ) → AreBytes bytes → HasSmall (cond b (Some (fat_header flags bytes)) None)
+small_fat bytes true flags b = let s = small_num bytes 8 4 b in small_header (num bytes 8 4) (omega arith)
+small_fat bytes false flags b = tt
+
+small_of : (bytes : List ℕ) → AreBytes bytes → HasSmall (header_of bytes)
+small_of [] b = tt
+small_of (x ∷ rest) b = go (x % 4 == 2)
+  where
+    go : (t : Bool) → HasSmall (cond t (Some (tiny_header x)) (if_fat (num (x ∷ rest) 0 2) (x ∷ rest)))
+    go true = omega arith
+    go false = small_fat (x ∷ rest) (are_fat_flags (num (x ∷ rest) 0 2) && nat_le 12 (length (x ∷ rest))) (num (x ∷ rest) 0 2) b
+
+header_from : (h : MethodHeader) (l : Layout) (o : Option (List RawClause × ℕ)) → with_clauses h o ≡ Some l → l.header ≡ h
+header_from h l None e = absurd cc
+header_from h l (Some x) e =
+    let m : Layout = record { header = h; clauses = x.0; len = x.1 } in
+    let same : m ≡ l = cc in sym (ap (λ (k : Layout). k.header) same)
+
+laid_small : (bytes : List ℕ) (l : Layout) (o : Option MethodHeader) → HasSmall o → laid_out bytes o ≡ Some l → locals_number l.header.locals < 2 ^ 32
+laid_small bytes l None s e = absurd cc
+laid_small bytes l (Some h) s e = go (nat_le (h.size + h.code_size) (length bytes)) e
+  where
+    go : (b : Bool) → cond b (with_clauses h (behind_code bytes h (h.size + h.code_size))) None ≡ Some l → locals_number l.header.locals < 2 ^ 32
+    go true e = subst (λ (k : MethodHeader). locals_number k.locals < 2 ^ 32) (sym (header_from h l (behind_code bytes h (h.size + h.code_size)) e)) s
+    go false e = absurd cc
+
+small_layout : (bytes : List ℕ) (l : Layout) → AreBytes bytes → layout_of bytes ≡ Some l → locals_number l.header.locals < 2 ^ 32
+unfolding layout_of
+small_layout bytes l b e = laid_small bytes l (header_of bytes) (small_of bytes b) e
+
+locals_valid : (o : Option Token) (v : ℕ) → IfSome o (λ token. token.row < 2 ^ 24) → locals_number o ≡ v → v < 2 ^ 32 → IfSome o IsSmallToken
+locals_valid None v r e s = tt
+locals_valid (Some t) v r e s = (omega arith, r)
+
+pub body_valid : (a : ℕ) (bytes : List ℕ) (body : Body) (len : ℕ) → AreBytes bytes → StandsFor a bytes body len → IfSome body.locals (λ token. token.row < 2 ^ 24) → IsValid a body
+body_valid a bytes body len b s row =
     let h = s.layout.header in
     let code = bytes_take h.code_size (drop h.size bytes) (bytes_drop h.size bytes b) in
     let read = all_read a 0 (code_of bytes h) s.stands.raw body.offsets h.code_size code s.stands.reads in
     let valid = valid_all a body.offsets s.stands.raw body.instrs read.0 s.stands.instrs in
+    let regions = regions_valid a bytes (code_of bytes h) s.layout s.stands.raw body.offsets body.regions b code s.is_laid s.stands.reads s.stands.regions in
     let n : length body.offsets ≡ length body.instrs = sym read.1 ∙ sym valid.1 in
-    subst (λ (n : ℕ). AllValid a n body.instrs) n valid.0
+    record {
+      instrs = subst (λ (n : ℕ). AllValid a n body.instrs) n valid.0;
+      regions = subst (λ (n : ℕ). AllValidRegions n body.regions) n regions;
+      locals = locals_valid body.locals (locals_number h.locals) row s.stands.locals (small_layout bytes s.layout b s.is_laid);
+    }

@@ -1,6 +1,7 @@
 -- The bytes that are written stand for the body.
-use Rattle.std.proofs.Common.{◌≡◌, ℕ, ◌+◌, ◌*◌, ◌^◌, ◌<◌, ◌≤◌, Bool, true, false, not, List, [], ◌∷◌, ◌++◌, map, length, Option, Some, None, refl, sym, ap, ◌∙◌, subst, arith, append_assoc, zero-add, length-append}
-use Rattle.std.specs.Prelude.{nat_lt, ◌==◌, IfSome}
+use Rattle.std.proofs.Common.{◌≡◌, ℕ, ◌+◌, ◌*◌, ◌%◌, ◌^◌, ◌<◌, ◌≤◌, Bool, true, false, not, List, [], ◌∷◌, ◌++◌, map, length, Option, Some, None, refl, sym, ap, ◌∙◌, subst, arith, append_assoc, zero-add, length-append, get_or}
+use Rattle.std.specs.Prelude.{nat_lt, ◌==◌, IfSome, if◌then◌else◌}
+use Rattle.std.proofs.lemmas.Grind.{common_steps}
 use Rattle.cil_base.specs.declared.token.Token.{Token}
 use Rattle.cil_model.specs.declared.body.Body.{Body}
 use Rattle.cil_model.specs.declared.body.Instr.{Instr}
@@ -162,3 +163,19 @@ pub more_places : (places : List ℕ) (is : List Instr) → places ≡ starts 0 
 more_places places is e =
     let m : length places ≡ length (starts 0 is) = ap (λ (l : List ℕ). length l) e in
     omega (arith, m, length_starts 0 is)
+
+-- ---- the first byte tells the headers apart
+
+fat_first : (init plain : Bool) → ((0x3003 + (if init then 0x10 else 0) + (if plain then 0 else 8)) % 256 % 4 == 2) ≡ false
+fat_first true true = refl
+fat_first true false = refl
+fat_first false true = refl
+fat_first false false = refl
+
+tiny_first : (size : ℕ) → ((4 * size + 2) % 4 == 2) ≡ true
+tiny_first size = grind (arith, common_steps)
+
+pub tiny_form : (body : Body) → (get_or (body_bytes body) 0 0 % 4 == 2) ≡ fits_tiny body (length (code_bytes_of body.instrs))
+tiny_form body =
+    let size = length (code_bytes_of body.instrs) in
+    decide (fits_tiny body size) (λ t. rw t (tiny_first size)) (λ f. rw f (fat_first body.init (is_empty body.regions)))

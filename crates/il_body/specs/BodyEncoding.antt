@@ -1,5 +1,5 @@
 -- The bytes that are written for a method body (ECMA-335, II.25.4 and III.1.9): each instruction in its shortest spelling, but branches and leave in the long one.
-use Rattle.std.specs.Prelude.{◌≡◌, ◌≤◌, ◌<◌, ℕ, zero, suc, ◌+◌, ◌-◌, ◌*◌, ◌%◌, ◌^◌, Bool, true, false, ◌==◌, ◌&&◌, not, nat_lt, nat_le, if◌then◌else◌, List, [], ◌∷◌, ◌++◌, length, get_or, take, drop, map, flat_map, find, replicate, ℤ, pos, negsuc, Option, Some, None, IfSome, is_some, IsTrue}
+use Rattle.std.specs.Prelude.{◌≡◌, ◌≤◌, ◌<◌, ℕ, zero, suc, ◌+◌, ◌-◌, ◌*◌, ◌%◌, ◌^◌, Bool, true, false, ◌==◌, ◌&&◌, not, nat_lt, nat_le, if◌then◌else◌, List, [], ◌∷◌, ◌++◌, length, get_or, slice_get, take, drop, map, flat_map, find, replicate, ℤ, pos, negsuc, Option, Some, None, IfSome, is_some, IsTrue}
 use Rattle.std.specs.Int.{w8, w16, w32, w64, cast_unsigned, to_le_bytes}
 use Rattle.std.specs.Ordering.{int_eq}
 use Rattle.cil_base.specs.declared.token.Token.{Token}
@@ -128,6 +128,31 @@ instr_bytes places at i = spelled places at i (spelling_of i.op i.operand)
 -- how many they are, wherever the instructions begin
 abbrev pub instr_size : Instr → ℕ
 instr_size i = length (instr_bytes [] 0 i)
+
+-- how many bytes an operand takes; a switch has some for each case besides, in its one spelling
+abbrev pub operand_room : OperandKind → ℕ
+operand_room op.Int8 = 1
+operand_room op.Index8 = 1
+operand_room op.Target8 = 1
+operand_room op.Index16 = 2
+operand_room op.Int32 = 4
+operand_room op.Target32 = 4
+operand_room op.Targets = 4
+operand_room op.TypeToken = 4
+operand_room op.FieldToken = 4
+operand_room op.MethodToken = 4
+operand_room op.StringToken = 4
+operand_room op.AnyToken = 4
+operand_room op.Int64 = 8
+operand_room kind = 0
+
+abbrev pub spelling_room : Opcode → ℕ
+spelling_room o = length (code_bytes o.code) + operand_room o.operand
+
+-- no spelling of the table says the instruction in fewer bytes, but a short branch
+abbrev pub AreShortest : Type 0
+AreShortest =
+    (code : ℕ) (operand : Operand) (o q : Opcode) (k : ℕ) → spelling_of code operand ≡ Some o → slice_get the_opcodes k ≡ Some q → q.long ≡ code → takes q.operand operand ≡ true → spelling_room o ≤ spelling_room q
 
 -- ---- the code
 

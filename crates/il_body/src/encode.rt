@@ -1,5 +1,5 @@
 // The bytes of a body.
-ghost use Rattle.std.specs.Prelude.{◌≡◌, ℕ, List, ◌+◌, ◌*◌, ◌<◌, ◌≤◌, ◌^◌, ◌++◌, ◌∷◌, [], length, take, map, nat_le, OnOk, OnErr, IfOk, IfSome, if◌then◌else◌};
+ghost use Rattle.std.specs.Prelude.{◌≡◌, ◌==◌, ◌%◌, get_or, ℕ, List, ◌+◌, ◌*◌, ◌<◌, ◌≤◌, ◌^◌, ◌++◌, ◌∷◌, [], length, take, map, nat_le, OnOk, OnErr, IfOk, IfSome, if◌then◌else◌};
 ghost use Rattle.cil_base.specs.Refusals.{OnRefused};
 ghost use Rattle.cil_model.specs.BodyOf.{StandsFor};
 ghost use Rattle.cil_model.specs.SmallCode.{locals_number};
@@ -137,6 +137,7 @@ pub fn encode_body(alloc: Global, body: &Body) -> Result<Bytes, Fault>
     requires { (a : ℕ) × IsValid a body.now }
     ensures body { (a : ℕ) → IsValid a body.now → IfOk result (λ bytes. StandsFor a bytes (as_encoded body.now) (length bytes)) }
     ensures bytes { IfOk result (λ bytes. bytes ≡ body_bytes body.now) }
+    ensures tiny { IfOk result (λ bytes. (get_or bytes 0 0 % 4 == 2) ≡ fits_tiny body.now (length (code_bytes_of body.now.instrs))) }
     ensures accepted { OnOk result (counted body.now.instrs ≤ instr_limit) }
     ensures refused { OnRefused result (λ r. (instr_limit < counted body.now.instrs) × (r ≡ too_many)) }
 {

@@ -1,7 +1,7 @@
 // Which spelling an instruction has, and how many bytes it takes.
 ghost use Rattle.std.specs.Prelude.{◌≡◌, ◌<◌, ◌≤◌, ◌+◌, ◌*◌, ◌^◌, ℕ, length, [], IfSome, IsTrue};
 ghost use Rattle.cil_model.specs.BodyLayout.{bit};
-ghost use Rattle.il_body.specs.BodyEncoding.{takes, takes_int, takes_index, takes_token, spelling_of, code_bytes, flag_bytes, constrained_bytes, front_bytes, operand_bytes, int_bytes, index_bytes, instr_size, cases_in};
+ghost use Rattle.il_body.specs.BodyEncoding.{AreShortest, takes, takes_int, takes_index, takes_token, spelling_of, code_bytes, flag_bytes, constrained_bytes, front_bytes, operand_bytes, int_bytes, index_bytes, instr_size, cases_in};
 
 use cil_base::Token;
 use cil_model::{Instr, Opcode, Operand, OperandKind, opcodes};
@@ -159,3 +159,8 @@ pub(crate) fn size_of(i: &Instr) -> usize
         Some(o) => front_size(i, o) + operand_size(o.operand, &i.operand),
     }
 }
+
+/// Each instruction is spelled in as few bytes as it can be, but for branches.
+pub fn spellings_are_shortest()
+    ensures { AreShortest }
+{}

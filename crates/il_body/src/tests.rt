@@ -3,14 +3,14 @@ ghost use Rattle.std.specs.Prelude.{◌<◌, ◌^◌, ℕ, length, IfSome};
 ghost use Rattle.il_body.specs.BodyEncoding.{IsValid};
 
 use crate::encode::{encode_body, encode_into};
-use crate::valid::read_instrs_are_valid;
+use crate::valid::read_is_valid;
 use cil_base::{Bytes, Place, Token};
 use cil_model::{Body, Region, RegionKind, Regions};
 use il_code::decode_body;
 use std::alloc::Global;
 use std::test::Fail;
 
-/// The body of bytes without regions and locals.
+/// The body of bytes, which can be written.
 fn read(alloc: Global, bytes: &[u8]) -> Option<Body>
     requires { length bytes.now < 2 ^ 32 }
     ensures { IfSome result (IsValid 0) }
@@ -20,14 +20,11 @@ fn read(alloc: Global, bytes: &[u8]) -> Option<Body>
         table: 6,
         row: 1,
     };
-    let Ok(body) = decode_body(alloc, bytes, place) else {
-        return None;
-    };
-    read_instrs_are_valid();
-    if !body.regions.is_empty() || body.locals.is_some() {
-        return None;
+    read_is_valid();
+    match decode_body(alloc, bytes, place) {
+        Ok(body) => Some(body),
+        Err(_) => None,
     }
-    Some(body)
 }
 
 fn is_written(alloc: Global, body: &Body, expected: &[u8]) -> bool

@@ -1,5 +1,5 @@
 // Bodies from bytes.
-ghost use Rattle.std.specs.Prelude.{◌≡◌, ◌≢◌, ◌<◌, ◌≤◌, ◌+◌, ◌^◌, ℕ, length, [], ◌∷◌, ◌++◌, IfOk, OnOk};
+ghost use Rattle.std.specs.Prelude.{◌≡◌, ◌≢◌, ◌<◌, ◌≤◌, ◌+◌, ◌^◌, ℕ, length, [], ◌∷◌, ◌++◌, IfOk, IfSome, OnOk};
 ghost use Rattle.cil_base.specs.Refusals.{OnRefused};
 ghost use Rattle.cil_base.specs.declared.refusal.Refusal.{Refusal};
 ghost use Rattle.cil_model.specs.SmallCode.{Reads};
@@ -54,8 +54,10 @@ fn read_code(alloc: Global, code: &[u8], place: Place) -> Result<(Vec<Instr>, U3
 
 /// The body of the code, with places for targets and regions.
 fn decode_code(alloc: Global, layout: Layout, code: &[u8], place: Place) -> Result<Body, Fault>
-    requires { length code.now ≡ layout.header.code_size }
+    requires size { length code.now ≡ layout.header.code_size }
+    requires row { IfSome layout.header.locals (λ token. token.row < 2 ^ 24) }
     ensures body { IfOk result (IsBody place.assembly layout code.now) }
+    ensures row { IfOk result (λ body. IfSome body.locals (λ token. token.row < 2 ^ 24)) }
     ensures broken { OnRefused result (IsFault place layout code.now) }
 {
     let Layout {
@@ -99,6 +101,7 @@ fn code_in(bytes: &[u8], header: MethodHeader) -> &[u8]
 pub fn decode_body(alloc: Global, bytes: &[u8], place: Place) -> Result<Body, Fault>
     requires { length bytes.now < 2 ^ 32 }
     ensures body { IfOk result (λ body. (len : ℕ) × StandsFor place.assembly bytes.now body len) }
+    ensures row { IfOk result (λ body. IfSome body.locals (λ token. token.row < 2 ^ 24)) }
     ensures broken { OnRefused result (BodyFault place bytes.now) }
     // It stands for no other body, and then breaks no rule; it breaks one rule first, and then
     // stands for no body.

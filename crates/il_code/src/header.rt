@@ -15,7 +15,8 @@ pub(crate) fn has_bit(value: u32, n: u32) -> bool
 }
 
 fn locals_in(v: u32) -> Option<Token>
-    ensures { result ≡ locals_of v }
+    ensures value { result ≡ locals_of v }
+    ensures row { IfSome result (λ token. token.row < 2 ^ 24) }
 {
     if v == 0 {
         None
@@ -32,7 +33,9 @@ fn is_fat(flags: u32) -> bool
 
 fn read_fat(bytes: &[u8]) -> Option<MethodHeader>
     requires { 2 ≤ length bytes.now }
-    ensures { result ≡ if_fat (num bytes.now 0 2) bytes.now }
+    ensures value { result ≡ if_fat (num bytes.now 0 2) bytes.now }
+    ensures row { IfSome result (λ h. IfSome h.locals (λ token. token.row < 2 ^ 24)) }
+    ensures small { IfSome result (λ h. h.size ≤ 12) }
 {
     let flags = two_in(bytes, 0) as u32;
     if !is_fat(flags) || bytes.len() < 12 {
@@ -52,6 +55,7 @@ fn read_fat(bytes: &[u8]) -> Option<MethodHeader>
 pub(crate) fn read_header(bytes: &[u8]) -> Option<MethodHeader>
     ensures value { result ≡ header_of bytes.now }
     ensures small { IfSome result (λ h. h.size ≤ 12) }
+    ensures row { IfSome result (λ h. IfSome h.locals (λ token. token.row < 2 ^ 24)) }
 {
     match bytes {
         [] => None,

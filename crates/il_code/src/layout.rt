@@ -31,6 +31,7 @@ pub(crate) fn read_layout(alloc: Global, bytes: &[u8]) -> Result<Option<Layout>,
     requires { length bytes.now < 2 ^ 32 }
     ensures value { IfOk result (λ layout. layout ≡ layout_of bytes.now) }
     ensures within { IfOk result (λ read. IfSome read (λ layout. layout.header.size + layout.header.code_size ≤ length bytes.now)) }
+    ensures row { IfOk result (λ read. IfSome read (λ layout. IfSome layout.header.locals (λ token. token.row < 2 ^ 24))) }
 {
     let Some(header) = read_header(bytes) else {
         return Ok(None);

@@ -1,9 +1,9 @@
-use Rattle.std.proofs.Common.{◌≡◌, ◌∙◌, ◌≤◌, ◌^◌, ℕ, List, arith, subst, ap, sym, map, length, ◌++◌}
+use Rattle.std.proofs.Common.{◌≡◌, ◌%◌, ◌==◌, get_or, ◌∙◌, ◌≤◌, ◌^◌, ℕ, List, arith, subst, ap, sym, map, length, ◌++◌}
 use Rattle.std.proofs.lemmas.Bool.{leb-true}
 use Rattle.cil_model.specs.declared.body.Instr.{Instr}
 use Rattle.cil_model.specs.BodyOf.{StandsFor}
-use Rattle.il_body.specs.BodyEncoding.{AllValid, AllValidRegions, as_encoded, behind_code, body_bytes, clause_of, code_from, counted, header_bytes, starts}
-use Rattle.il_body.proofs.WholeLaws.{body_back, more_places, put_together, small_whole}
+use Rattle.il_body.specs.BodyEncoding.{AllValid, AllValidRegions, as_encoded, behind_code, body_bytes, clause_of, code_bytes_of, code_from, counted, fits_tiny, header_bytes, starts}
+use Rattle.il_body.proofs.WholeLaws.{body_back, more_places, put_together, small_whole, tiny_form}
 use Rattle.il_body.proofs.encode.encode_body.Goals as goal
 
 pub code_of-requires-clause-valid : goal.code_of-requires-clause-valid
@@ -42,3 +42,8 @@ returns-clause-body c a valid =
     let body = c.args.body.now in
     let few : counted body.instrs ≤ 2 ^ 22 = subst (λ (l : List Instr). counted l ≤ 2 ^ 22) c.as_slice-instrs.ensures (leb-true (counted c.as_slice-instrs.result.now) (2 ^ 22) (sym c.if-not-is_within_limit.ensures)) in
     subst (λ (b : List ℕ). StandsFor a b (as_encoded body) (length b)) (sym (whole c)) (body_back a body valid few c.in_ok-bytes.ensures.stack)
+
+pub returns-clause-tiny : goal.returns-clause-tiny
+returns-clause-tiny c =
+    let body = c.args.body.now in
+    subst (λ (b : List ℕ). (get_or b 0 0 % 4 == 2) ≡ fits_tiny body (length (code_bytes_of body.instrs))) (sym (whole c)) (tiny_form body)

@@ -25,6 +25,6 @@ returns-in-Some-put_all-clause-broken c =
     inr (record {
       raw = raw;
       offsets = offsets;
-      reads = rw (← c.requires) c.in_ok-instrs.ensures.read;
+      reads = rw (← c.requires.size) c.in_ok-instrs.ensures.read;
       first = first ∙ ap Some (ap (λ (l : List ℕ). refusal I3 c.args.place (get_or l k 0)) (sym c.as_slice-places.ensures) ∙ sym c.refusal-in-Some-put_all.ensures);
     })
