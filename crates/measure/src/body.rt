@@ -1,8 +1,10 @@
 // A body of many instructions, decoded and encoded again and again.
-ghost use Rattle.std.specs.Prelude.{◌<◌, ◌^◌, length};
+ghost use Rattle.std.specs.Prelude.{◌<◌, ◌^◌, length, IfOk};
+ghost use Rattle.il_body.specs.BodyEncoding.{IsValid};
 
 use cil_base::{Fault, Place};
-use il_body::{decode_body, encode_body};
+use cil_model::Body;
+use il_body::{decode_body, encode_body, read_is_valid};
 use std::alloc::{AllocError, Global};
 
 /// A fat header over so many bytes of code, with a stack of 8 (ECMA-335, II.25.4.3).
@@ -25,6 +27,23 @@ fn bytes_of(alloc: Global, fours: u32) -> Result<Vec<u8>, AllocError> {
     Ok(bytes)
 }
 
+/// The body that the bytes stand for, which can be encoded.
+fn read(alloc: Global, bytes: &[u8]) -> Result<Body, Fault>
+    requires { length bytes.now < 2 ^ 32 }
+    ensures { IfOk result (IsValid 0) }
+{
+    let place = Place {
+        assembly: 0,
+        table: 6,
+        row: 1,
+    };
+    read_is_valid();
+    match decode_body(alloc, bytes, place) {
+        Ok(body) => Ok(body),
+        Err(fault) => Err(fault),
+    }
+}
+
 /// The length of a body of so many instructions, after it was decoded and encoded so often; none where
 /// it isn't read or too long to be one.
 pub fn repeat(alloc: Global, instrs: u32, times: u32) -> Result<Option<usize>, Fault> {
@@ -32,14 +51,9 @@ pub fn repeat(alloc: Global, instrs: u32, times: u32) -> Result<Option<usize>, F
     if bytes.len() > u32::MAX as usize {
         return Ok(None);
     }
-    let place = Place {
-        assembly: 0,
-        table: 6,
-        row: 1,
-    };
     let mut len = bytes.len();
     for _k in 0..times {
-        let body = decode_body(alloc, &bytes, place)?;
+        let body = read(alloc, &bytes)?;
         let written = encode_body(alloc, &body)?;
         len = written.len();
     }
