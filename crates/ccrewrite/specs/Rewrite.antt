@@ -1,8 +1,8 @@
 -- What `rewrite` makes of one assembly without contracts: the same rows in a grown image, with its metadata in a section of their own.
-use Rattle.std.specs.Prelude.{◌≡◌, ◌⊎◌, ◌<◌, ◌≤◌, ℕ, ◌+◌, ◌^◌, List, length, codes, Option, Some, None, Result, Ok, Err}
+use Rattle.std.specs.Prelude.{◌≡◌, ◌⊎◌, ◌<◌, ℕ, List, length, codes, Some, Ok, Err}
 use Rattle.cil_base.specs.declared.rule.Rule.TheVariants.{Z1}
 use Rattle.cil_base.specs.declared.refusal.Refusal.{Refusal}
-use Rattle.cil_base.specs.Refusals.{First, NoneBroken, InTurn, Fails}
+use Rattle.cil_base.specs.Refusals.{NoneBroken, InTurn, Fails}
 use Rattle.pe_image.specs.Headers.{headers_of}
 use Rattle.pe_image.specs.Cli.{metadata_of}
 use Rattle.pe_image.specs.Growth.{growth_in}
@@ -15,7 +15,7 @@ use Rattle.cli_heaps.specs.Entries.{string_at}
 use Rattle.cli_heaps.specs.Growth.{Growths, no_growth}
 use Rattle.cli_heaps.specs.Written.{parts, written, limit_tests, IsWritten}
 use Rattle.cli_tables.specs.Layout.{tables_in}
-use Rattle.cli_tables.specs.Tables.{rows_in, cell_at, rows_of, AreIn}
+use Rattle.cli_tables.specs.Tables.{cell_at, AreIn}
 use Rattle.cli_tables.specs.TableRules.{HeaderBroken, RowsBroken}
 use Rattle.cli_tables.specs.Written.{stream_in, IsOverfull}
 
@@ -58,13 +58,24 @@ abbrev pub IsContractRow : List ℕ → ℕ → ℕ → Type 0
 IsContractRow meta table row =
     (place : ℕ) × (cell_at (root.tables meta) table row 2 ≡ Some place) × (string_at (root.strings meta) place ≡ Some contracts_namespace)
 
+-- the first of them in a table
+pub record IsFirstRow (meta : List ℕ) (table row : ℕ) : Type 0 where
+  pub there : IsContractRow meta table row
+  pub none_before : (before : ℕ) → before < row → IsContractRow meta table before → ⊥
+
 -- A TypeRef or TypeDef row of that namespace: the assembly has contracts, which aren't rewritten yet.
-pub record HasContracts (bytes : List ℕ) (r : Refusal) : Type 0 where
+pub record IsContract (meta : List ℕ) (r : Refusal) : Type 0 where
   pub rule : r.rule ≡ Z1
   pub assembly : r.assembly ≡ 0
   pub table : (r.table ≡ 1) ⊎ (r.table ≡ 2)
-  pub row : IsContractRow (metadata_of bytes) r.table r.row
+  pub row : IsContractRow meta r.table r.row
   pub at : r.at ≡ 0
+
+abbrev pub HasContracts : List ℕ → Refusal → Type 0
+HasContracts bytes = IsContract (metadata_of bytes)
+
+abbrev pub contract_row : ℕ → ℕ → Refusal
+contract_row table row = record { rule = Z1; assembly = 0; table = table; row = row; at = 0 }
 
 -- a limit of what is written; any one of those that are passed may be named
 abbrev pub PassesLimit : List ℕ → Refusal → Type 0

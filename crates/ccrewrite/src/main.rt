@@ -1,6 +1,7 @@
 //! Rewrites Code Contracts in compiled code into run-time checks.
 #![tactic(auto)]
 
+mod contract_rows;
 mod options;
 mod program;
 mod rewrite;

@@ -18,7 +18,7 @@ use crate::text::{text_of_done, text_of_refusal, text_of_rewrite, text_of_store,
 use crate::words::{Command, Request, command_of};
 use cil_base::{Bytes, Fault, Place, Refusal, Rule};
 use cil_model::Body;
-use il_body::{decode_small, encode_body};
+use il_body::{decode_small, encode_small};
 use outside_core::{ReadRefusal, Sink, Store, StoreRefusal};
 use std::alloc::{AllocError, Global};
 
@@ -61,7 +61,7 @@ fn rewrite_bytes(alloc: Global, bytes: &[u8]) -> Result<RewrittenBody, Fault>
         Err(fault) => return Err(fault),
     };
     Ok(RewrittenBody {
-        bytes: encode_body(alloc, &after)?,
+        bytes: encode_small(alloc, &after)?,
         clauses: clauses_of(&before),
     })
 }

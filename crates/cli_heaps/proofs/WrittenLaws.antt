@@ -9,7 +9,7 @@ use Rattle.cil_base.specs.Numbers.{num}
 use Rattle.cli_heaps.specs.Root.{Stream, stream_count, first_header, streams, stream_bytes, is_named, bytes_of, first_named, heap_named, strings, blobs, users, guids}
 use Rattle.cli_heaps.specs.RootRules.{Broken, is_signed, root_cut, root_tests, test, header_tests, lacks_tables, is_users, is_repeated}
 use Rattle.cli_heaps.specs.Entries.{string_at, blob_at, guid_at}
-use Rattle.cli_heaps.specs.Growth.{Growth, Growths, full, grown_length, ReadsAt, KeepsUsers}
+use Rattle.cli_heaps.specs.Growth.{Growth, Growths, full, grown_length, ReadsAt, AllRead, KeepsUsers}
 use Rattle.cli_heaps.specs.Written.{zeros, fill, filled, Part, Known, grown_known, new_bytes, old_part, parts, bodies, first_body, written, limits, GrewFrom, IsWritten, Keeps, EntriesRead}
 use Rattle.cli_heaps.proofs.ReadLaws.{if_some, string_kept, blob_kept, guid_kept}
 use Rattle.cli_heaps.proofs.UserLaws.{users_join}
@@ -198,12 +198,15 @@ keeps_entries read stays old added new e at =
 reads_entries : (read : List ℕ → ℕ → Option (List ℕ)) → ((heap more : List ℕ) (at : ℕ) (s : List ℕ) → read heap at ≡ Some s → read (heap ++ more) at ≡ Some s) → (old new : List ℕ) (g : Growth) → g.base ≡ length old → new ≡ filled (old ++ g.added) → (at : ℕ) (s : List ℕ) → ReadsAt read g at s → read new at ≡ Some s
 reads_entries read stays old new g base e at s there = ap (λ (l : List ℕ). read l at) e ∙ stays (old ++ g.added) (zeros (fill (length (old ++ g.added)))) at s (there old (sym base))
 
-pub entries_read : (old new : List ℕ) (g : Growths) (t : List ℕ) → GrewFrom old g → IsWritten old g t new → EntriesRead old g new
-entries_read old new g t grew w = record {
+pub entries_read : (old new : List ℕ) (g : Growths) (t : List ℕ) → GrewFrom old g → AllRead string_at g.strings → AllRead blob_at g.blobs → AllRead blob_at g.users → IsWritten old g t new → EntriesRead old g new
+entries_read old new g t grew ss bs us w = record {
   old_strings = keeps_entries string_at string_kept (strings old) g.strings.added (strings new) w.strings_are;
   old_blobs = keeps_entries blob_at blob_kept (blobs old) g.blobs.added (blobs new) w.blobs_are;
   old_users = keeps_entries blob_at blob_kept (users old) g.users.added (users new) w.users_are;
   old_guids = keeps_entries guid_at guid_kept (guids old) [] (guids new) (w.guids_are ∙ ap filled (sym (append-nil (guids old))));
+  strings_read = λ s at h. reads_entries string_at string_kept (strings old) (strings new) g.strings grew.strings w.strings_are at s (ss s at h);
+  blobs_read = λ s at h. reads_entries blob_at blob_kept (blobs old) (blobs new) g.blobs grew.blobs w.blobs_are at s (bs s at h);
+  users_read = λ s at h. reads_entries blob_at blob_kept (users old) (users new) g.users grew.users w.users_are at s (us s at h);
   new_strings = λ at s h. reads_entries string_at string_kept (strings old) (strings new) g.strings grew.strings w.strings_are at s h;
   new_blobs = λ at s h. reads_entries blob_at blob_kept (blobs old) (blobs new) g.blobs grew.blobs w.blobs_are at s h;
   new_users = λ at s h. reads_entries blob_at blob_kept (users old) (users new) g.users grew.users w.users_are at s h;

@@ -7,7 +7,7 @@ use Rattle.cli_heaps.specs.Root as root
 use Rattle.cli_heaps.specs.Root.{Stream, version_length, version_text, first_header, name_width, streams, stream_bytes, is_named, first_named, strings, blobs, users, guids}
 use Rattle.cli_heaps.specs.RootRules.{Broken, is_known}
 use Rattle.cli_heaps.specs.Entries.{string_at, blob_at, guid_at}
-use Rattle.cli_heaps.specs.Growth.{Growths, grown_length, full, ReadsAt}
+use Rattle.cli_heaps.specs.Growth.{Growth, Growths, grown_length, full, place_of, ReadsAt}
 
 -- ---- bytes
 
@@ -167,12 +167,19 @@ pub record IsWritten (old : List ℕ) (g : Growths) (tables new : List ℕ) : Ty
 abbrev pub Keeps : (List ℕ → ℕ → Option (List ℕ)) → List ℕ → List ℕ → Type 0
 Keeps read old new = (at : ℕ) → IfSome (read old at) (λ content. read new at ≡ Some content)
 
--- the entries of the new root: the old ones at their places, and those that were appended
+-- each appended entry is read at its place
+abbrev pub IsRead : (List ℕ → ℕ → Option (List ℕ)) → Growth → List ℕ → Type 0
+IsRead read g new = (content : List ℕ) (at : ℕ) → place_of g content ≡ Some at → read new at ≡ Some content
+
+-- The entries of the new root: the old ones at their places, all that were appended, and so what is known of one of them.
 pub record EntriesRead (old : List ℕ) (g : Growths) (new : List ℕ) : Type 0 where
   pub old_strings : Keeps string_at (strings old) (strings new)
   pub old_blobs : Keeps blob_at (blobs old) (blobs new)
   pub old_users : Keeps blob_at (users old) (users new)
   pub old_guids : Keeps guid_at (guids old) (guids new)
+  pub strings_read : IsRead string_at g.strings (strings new)
+  pub blobs_read : IsRead blob_at g.blobs (blobs new)
+  pub users_read : IsRead blob_at g.users (users new)
   pub new_strings : (at : ℕ) (content : List ℕ) → ReadsAt string_at g.strings at content → string_at (strings new) at ≡ Some content
   pub new_blobs : (at : ℕ) (content : List ℕ) → ReadsAt blob_at g.blobs at content → blob_at (blobs new) at ≡ Some content
   pub new_users : (at : ℕ) (content : List ℕ) → ReadsAt blob_at g.users at content → blob_at (users new) at ≡ Some content

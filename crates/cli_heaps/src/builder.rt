@@ -4,7 +4,7 @@ ghost use Rattle.std.specs.List.{list_any, flat_map};
 ghost use Rattle.cil_base.specs.Refusals.{OnRefused};
 ghost use Rattle.cli_heaps.specs.Root.{Metadata, is_zero, strings, blobs, users};
 ghost use Rattle.cli_heaps.specs.Entries.{string_at, blob_at};
-ghost use Rattle.cli_heaps.specs.Growth.{Growth, Growths, no_growth, place_of, Appends, IsFull, ReadsAt, KeepsEntries, KeepsUsers, string_entry, blob_entry, user_content, is_special, unit_bytes, full};
+ghost use Rattle.cli_heaps.specs.Growth.{Growth, Growths, no_growth, place_of, Appends, IsFull, ReadsAt, AllRead, KeepsEntries, KeepsUsers, string_entry, blob_entry, user_content, is_special, unit_bytes, full};
 
 use crate::grown::{Grown, HEAP_LIMIT, USER_LIMIT, full};
 use crate::heaps::Heaps;
@@ -116,23 +116,26 @@ impl HeapBuilder {
         })
     }
 
-    /// What stands behind the old bytes of `#Strings`.
+    /// What stands behind the old bytes of `#Strings`. Each appended entry is read in it.
     pub fn strings_added(&self) -> &[u8]
-        ensures { result.now ≡ self.now.strings.added }
+        ensures added { result.now ≡ self.now.strings.added }
+        ensures read { AllRead string_at self.now.strings }
     {
         self.strings.added()
     }
 
-    /// What stands behind the old bytes of `#Blob`.
+    /// What stands behind the old bytes of `#Blob`. Each appended entry is read in it.
     pub fn blobs_added(&self) -> &[u8]
-        ensures { result.now ≡ self.now.blobs.added }
+        ensures added { result.now ≡ self.now.blobs.added }
+        ensures read { AllRead blob_at self.now.blobs }
     {
         self.blobs.added()
     }
 
-    /// What stands behind the old bytes of `#US`.
+    /// What stands behind the old bytes of `#US`. Each appended entry is read in it.
     pub fn users_added(&self) -> &[u8]
         ensures added { result.now ≡ self.now.users.added }
+        ensures read { AllRead blob_at self.now.users }
         // With them `#US` is still whole entries, as the rules want.
         ensures whole { KeepsUsers self.now.users }
     {

@@ -5,7 +5,8 @@ ghost use Rattle.cil_base.specs.Numbers.{num};
 ghost use Rattle.cil_base.specs.Refusals.{OnRefused, NoneBroken, Fails, first_of};
 ghost use Rattle.cli_heaps.specs.Root.{Metadata, first_header, version_length, name_width, stream_bytes, is_named, first_named, streams, strings, blobs, users, guids};
 ghost use Rattle.cli_heaps.specs.RootRules.{root_cut};
-ghost use Rattle.cli_heaps.specs.Growth.{Growths, full, grown_length, KeepsUsers};
+ghost use Rattle.cli_heaps.specs.Growth.{Growths, full, grown_length, AllRead, KeepsUsers};
+ghost use Rattle.cli_heaps.specs.Entries.{string_at, blob_at};
 ghost use Rattle.cli_heaps.specs.Written.{zeros, fill, filled, two_bytes, four_bytes, Part, Known, grown_known, new_bytes, old_part, missing, all_missing, parts, ended, headers, headers_size, bodies, headers_end, first_body, written, limit_test, limits, limit_tests, GrewFrom, IsWritten, EntriesRead};
 
 use crate::builder::HeapBuilder;
@@ -20,19 +21,40 @@ use std::marker::Model;
 /// The most streams.
 const STREAM_LIMIT: u32 = 0xFFFF;
 
-/// A stream that is written: its name and its bytes.
+/// A stream that is written. Its bytes are those that are kept of the old root and those that are
+/// made for the new one.
 #[derive(Drop)]
 struct Part<'a> {
     name: &'a [u8],
-    bytes: Vec<u8>,
+    kept: &'a [u8],
+    made: Vec<u8>,
 }
 
 impl<'a> Model for Part<'a> {
+    ghost use Rattle.std.specs.Prelude.{◌++◌};
     ghost use Rattle.cli_heaps.specs.Written.{Part};
 
     ghost Value = { Part };
 
-    ghost view = { λ p. record { name = p.name.now; bytes = p.bytes.items } };
+    ghost view = { λ p. record { name = p.name.now; bytes = p.kept.now ++ p.made.items } };
+}
+
+impl<'a> Part<'a> {
+    fn made(name: &'a [u8], bytes: Vec<u8>) -> Part<'a>
+        ensures { result ≡ record { name = name.now; bytes = bytes.items } }
+    {
+        Part {
+            name,
+            kept: &[],
+            made: bytes,
+        }
+    }
+
+    fn size(&self) -> usize
+        ensures { result ≡ length self.now.bytes }
+    {
+        self.kept.len() + self.made.len()
+    }
 }
 
 // ---- bytes
@@ -81,32 +103,35 @@ fn filled(alloc: Global, old: &[u8], added: &[u8]) -> Result<Vec<u8>, AllocError
 
 // ---- the streams
 
-/// The new bytes of an old stream.
-fn new_bytes(
+/// An old stream with its new bytes; an unknown one keeps its own.
+fn old_part<'a>(
     alloc: Global,
-    heaps: &Heaps<'_>,
+    heaps: &Heaps<'a>,
     grown: &HeapBuilder,
     tables: &[u8],
-    stream: &Stream<'_>,
-) -> Result<Vec<u8>, AllocError>
-    ensures { IfOk result (λ v. v.items ≡ new_bytes heaps.now.bytes (grown_known heaps.now.bytes grown.now tables.now) stream.now) }
+    stream: &Stream<'a>,
+) -> Result<Part<'a>, AllocError>
+    ensures { IfOk result (λ p. p ≡ old_part heaps.now.bytes (grown_known heaps.now.bytes grown.now tables.now) stream.now) }
 {
-    if stream.is_named(b"#~") {
-        return Vec::from_slice(alloc, tables);
-    }
-    if stream.is_named(b"#Strings") {
-        return filled(alloc, heaps.strings(), grown.strings_added());
-    }
-    if stream.is_named(b"#US") {
-        return filled(alloc, heaps.users(), grown.users_added());
-    }
-    if stream.is_named(b"#GUID") {
-        return filled(alloc, heaps.guids(), &[]);
-    }
-    if stream.is_named(b"#Blob") {
-        return filled(alloc, heaps.blobs(), grown.blobs_added());
-    }
-    Vec::from_slice(alloc, heaps.stream_bytes(stream))
+    let name = stream.name();
+    let made = if stream.is_named(b"#~") {
+        Vec::from_slice(alloc, tables)?
+    } else if stream.is_named(b"#Strings") {
+        filled(alloc, heaps.strings(), grown.strings_added())?
+    } else if stream.is_named(b"#US") {
+        filled(alloc, heaps.users(), grown.users_added())?
+    } else if stream.is_named(b"#GUID") {
+        filled(alloc, heaps.guids(), &[])?
+    } else if stream.is_named(b"#Blob") {
+        filled(alloc, heaps.blobs(), grown.blobs_added())?
+    } else {
+        return Ok(Part {
+            name,
+            kept: heaps.stream_bytes(stream),
+            made: Vec::new(alloc),
+        });
+    };
+    Ok(Part::made(name, made))
 }
 
 fn old_parts<'a>(
@@ -120,11 +145,7 @@ fn old_parts<'a>(
     let mut parts = Vec::new(alloc);
     let streams = heaps.streams(alloc)?;
     for stream in streams.as_slice() {
-        let bytes = new_bytes(alloc, heaps, grown, tables, stream)?;
-        parts.push(Part {
-            name: stream.name(),
-            bytes,
-        })?;
+        parts.push(old_part(alloc, heaps, grown, tables, stream)?)?;
     }
     Ok(parts)
 }
@@ -144,7 +165,7 @@ fn push_missing<'a>(
         return Ok(());
     }
     let bytes = filled(alloc, old, added)?;
-    parts.push(Part { name, bytes })?;
+    parts.push(Part::made(name, bytes))?;
     Ok(())
 }
 
@@ -156,6 +177,7 @@ fn all_parts<'a>(
 ) -> Result<Vec<Part<'a>>, AllocError>
     ensures parts { IfOk result (λ v. v.items ≡ parts heaps.now.bytes grown.now tables.now) }
     ensures users { OnOk result (KeepsUsers grown.now.users) }
+    ensures read { OnOk result (AllRead string_at grown.now.strings × AllRead blob_at grown.now.blobs × AllRead blob_at grown.now.users) }
 {
     let mut parts = old_parts(alloc, heaps, grown, tables)?;
     let added = grown.strings_added();
@@ -221,7 +243,7 @@ fn push_header(out: &mut Vec<u8>, at: u32, part: &Part<'_>) -> Result<(), AllocE
 {
     let len = part.name.len();
     out.extend_from_slice(&four_bytes(at))?;
-    out.extend_from_slice(&four_bytes(part.bytes.len() as u32))?;
+    out.extend_from_slice(&four_bytes(part.size() as u32))?;
     out.extend_from_slice(part.name)?;
     push_zeros(out, 4 * (len / 4 + 1) - len)
 }
@@ -236,7 +258,10 @@ fn push_headers(out: &mut Vec<u8>, start: usize, parts: &[Part<'_>]) -> Result<u
 {
     let mut at = start;
     for part in parts {
-        let len = part.bytes.len();
+        let len = part.size();
+        if len > u32::MAX as usize {
+            return Err(AllocError);
+        }
         let next = at + len + fill(len);
         if next > u32::MAX as usize {
             return Err(AllocError);
@@ -250,8 +275,9 @@ fn push_headers(out: &mut Vec<u8>, start: usize, parts: &[Part<'_>]) -> Result<u
 fn push_body(out: &mut Vec<u8>, part: &Part<'_>) -> Result<(), AllocError>
     ensures { OnOk result (out.new.items ≡ out.old.items ++ filled part.now.bytes) }
 {
-    out.extend_from_slice(part.bytes.as_slice())?;
-    push_zeros(out, fill(part.bytes.len()))
+    out.extend_from_slice(part.kept)?;
+    out.extend_from_slice(part.made.as_slice())?;
+    push_zeros(out, fill(part.size()))
 }
 
 fn push_bodies(out: &mut Vec<u8>, parts: &[Part<'_>]) -> Result<(), AllocError>
@@ -280,7 +306,8 @@ fn write_root(alloc: Global, meta: &[u8], parts: &[Part<'_>]) -> Result<Vec<u8>,
     let mut out = Vec::new(alloc);
     out.extend_from_slice(&meta[..first - 2])?;
     out.extend_from_slice(&two_bytes(parts.len() as u16))?;
-    push_headers(&mut out, start, parts)?;
+    let len = push_headers(&mut out, start, parts)?;
+    out.reserve(len - start)?;
     push_zeros(&mut out, start - end)?;
     push_bodies(&mut out, parts)?;
     Ok(out)
@@ -300,6 +327,7 @@ pub fn write_metadata(
     requires whole { 24 + 4 * count_ones (num tables.now 8 8) ≤ length tables.now }
     requires full_words { length tables.now % 4 ≡ 0 }
     ensures ok { IfOk result (λ new. IsWritten heaps.now.bytes grown.now tables.now new) }
+    ensures bytes { IfOk result (λ new. new ≡ written heaps.now.bytes (parts heaps.now.bytes grown.now tables.now)) }
     ensures entries { IfOk result (λ new. EntriesRead heaps.now.bytes grown.now new) }
     ensures within { OnOk result (NoneBroken (Fails (limit_tests heaps.now.bytes grown.now tables.now))) }
     ensures refused { OnRefused result (Fails (limit_tests heaps.now.bytes grown.now tables.now)) }

@@ -29,16 +29,13 @@ in_form Inner slot t u form is rolls h = subst (λ (x : SigTy-F SigTy MethodSig)
 
 -- ---- a byte and what stands behind it
 
-pub behind_byte : {A B : Type 0} (G : List ℕ → A → Type 0) (H : List ℕ → B → Type 0) (b : ℕ) (v : A) (w : B) (old mid new : List ℕ) → ((text : List ℕ) → G text v → H (b ∷ text) w) → mid ≡ old ++ b ∷ [] → Adds G mid new v → Adds H old new w
-behind_byte G H b v w old mid new f m (text, n, g) = (b ∷ text, n ∙ ap (λ (l : List ℕ). l ++ text) m ∙ append_assoc old (b ∷ []) text, f text g)
+pub behind_adds : {A : Type 0} (G : List ℕ → A → Type 0) (b : ℕ) (v : A) (old mid new : List ℕ) → mid ≡ old ++ b ∷ [] → Adds G mid new v → Adds (Behind b G) old new v
+behind_adds G b v old mid new m (text, n, g) = (b ∷ text, n ∙ ap (λ (l : List ℕ). l ++ text) m ∙ append_assoc old (b ∷ []) text, (text, refl, g))
 
 -- ---- all that was printed
 
 pub from_empty : {A : Type 0} (G : List ℕ → A → Type 0) (new : List ℕ) (v : A) → Adds G [] new v → G new v
 from_empty G new v (text, e, g) = subst (λ (l : List ℕ). G l v) (sym e) g
-
-pub behind_first : {A : Type 0} (G : List ℕ → A → Type 0) (b : ℕ) (first new : List ℕ) (v : A) → first ≡ b ∷ [] → Adds G first new v → Behind b G new v
-behind_first G b first new v m (text, e, g) = (text, e ∙ ap (λ (l : List ℕ). l ++ text) m, g)
 
 -- ---- lists
 
@@ -90,36 +87,35 @@ module _ (I : Slot → List ℕ → SigTy → Type 0) where
   -- ---- types
 
   module _ (slot : Slot) where
-    pub form_adds : {A E X : Type 0} (G : List ℕ → A → Type 0) (b : ℕ) (v : A) (t u : SigTy) (old mid new : List ℕ) (r : Result X E) → ((text : List ℕ) → G text v → Layer I slot (b ∷ text) u) → t ≡ u → mid ≡ old ++ b ∷ [] → OnOk r (Adds G mid new v) → OnOk r (Adds (Layer I slot) old new t)
-    form_adds G b v t u old mid new r f is m h =
-        on_ok _ _ r (behind_byte G (Layer I slot) b v t old mid new (λ text g. subst (λ (x : SigTy). Layer I slot (b ∷ text) x) (sym is) (f text g)) m) h
+    form_of : {A : Type 0} (G : List ℕ → A → Type 0) (b : ℕ) (v : A) (t u : SigTy) (old new : List ℕ) → ((text : List ℕ) → G text v → Layer I slot (b ∷ text) u) → t ≡ u → Adds (Behind b G) old new v → Adds (Layer I slot) old new t
+    form_of G b v t u old new f is (text, n, (rest, m, g)) =
+        (text, n, subst (λ (x : SigTy). Layer I slot text x) (sym is) (subst (λ (l : List ℕ). Layer I slot l u) (sym m) (f rest g)))
+
+    pub form_adds : {A E X : Type 0} (G : List ℕ → A → Type 0) (b : ℕ) (v : A) (t u : SigTy) (old new : List ℕ) (r : Result X E) → ((text : List ℕ) → G text v → Layer I slot (b ∷ text) u) → t ≡ u → OnOk r (Adds (Behind b G) old new v) → OnOk r (Adds (Layer I slot) old new t)
+    form_adds G b v t u old new r f is h = on_ok _ _ r (form_of G b v t u old new f is) h
 
     pub prim_adds : (Inner : Slot → SigTy → Type 0) (b : ℕ) (t : SigTy) (old new : List ℕ) → t ≡ ty.Prim b → IsValidForm Inner slot (out-SigTy t) → new ≡ old ++ b ∷ [] → Adds (Layer I slot) old new t
     prim_adds Inner b t old new is valid e =
         let h = in_form Inner slot t (ty.Prim b) (SigTy-F.Prim b) is (rolls-Prim b) valid in
         (b ∷ [], e, subst (λ (x : SigTy). Layer I slot (b ∷ []) x) (sym is) (prim h.0 h.1))
 
-    pub array_adds : (v t : SigTy) (rank : ℕ) (sizes : List ℕ) (lows : List ℤ) (o0 o1 o2 o3 o4 o5 : List ℕ) → v ≡ ty.Array t rank sizes lows → o1 ≡ o0 ++ 0x14 ∷ [] → Adds (I Plain) o1 o2 t → Adds IsPacked o2 o3 rank
-        → Adds (Counted IsPacked) o3 o4 sizes → Adds (Counted IsSigned) o4 o5 lows → Adds (Layer I slot) o0 o5 v
-    array_adds v t rank sizes lows o0 o1 o2 o3 o4 o5 is e1 (ts, e2, it) (rs, e3, pr) (ss, e4, cs) (ls, e5, cl) =
-        let all : o5 ≡ o0 ++ (0x14 ∷ ts ++ (rs ++ (ss ++ ls))) =
-        e5 ∙ ap (λ (l : List ℕ). l ++ ls) (e4 ∙ ap (λ (l : List ℕ). l ++ ss) (e3 ∙ ap (λ (l : List ℕ). l ++ rs) (e2 ∙ ap (λ (l : List ℕ). l ++ ts) e1))) ∙ simp append_assoc in
+    pub array_adds : (v t : SigTy) (rank : ℕ) (sizes : List ℕ) (lows : List ℤ) (o0 o1 o2 o3 o4 : List ℕ) → v ≡ ty.Array t rank sizes lows → Adds (Behind 0x14 (I Plain)) o0 o1 t → Adds IsPacked o1 o2 rank
+        → Adds (Counted IsPacked) o2 o3 sizes → Adds (Counted IsSigned) o3 o4 lows → Adds (Layer I slot) o0 o4 v
+    array_adds v t rank sizes lows o0 o1 o2 o3 o4 is (bs, e1, (ts, m, it)) (rs, e2, pr) (ss, e3, cs) (ls, e4, cl) =
+        let all : o4 ≡ o0 ++ (0x14 ∷ ts ++ (rs ++ (ss ++ ls))) =
+        e4 ∙ ap (λ (l : List ℕ). l ++ ls) (e3 ∙ ap (λ (l : List ℕ). l ++ ss) (e2 ∙ ap (λ (l : List ℕ). l ++ rs) (e1 ∙ ap (λ (l : List ℕ). o0 ++ l) m))) ∙ simp append_assoc in
         (0x14 ∷ ts ++ (rs ++ (ss ++ ls)), all, subst (λ (x : SigTy). Layer I slot (0x14 ∷ ts ++ (rs ++ (ss ++ ls))) x) (sym is) (array sizes lows ts rs ss ls it pr cs cl))
 
-    pub inst_adds : (v : SigTy) (value : Bool) (coded : ℕ) (args : List SigTy) (k : ℕ) (o0 o1 o2 o3 o4 : List ℕ) → v ≡ ty.Inst value coded args → k ≡ named_byte value → o1 ≡ o0 ++ 0x15 ∷ [] → o2 ≡ o1 ++ k ∷ []
-        → Adds IsPacked o2 o3 coded → Adds (Counted (I Plain)) o3 o4 args → Adds (Layer I slot) o0 o4 v
-    inst_adds v value coded args k o0 o1 o2 o3 o4 is ks e1 e2 (cs, e3, pc) (ts, e4, ca) =
-        let named : o2 ≡ o1 ++ named_byte value ∷ [] = e2 ∙ ap (λ (n : ℕ). o1 ++ n ∷ []) ks in
-        let all : o4 ≡ o0 ++ (0x15 ∷ named_byte value ∷ cs ++ ts) = e4 ∙ ap (λ (l : List ℕ). l ++ ts) (e3 ∙ ap (λ (l : List ℕ). l ++ cs) (named ∙ ap (λ (l : List ℕ). l ++ named_byte value ∷ []) e1)) ∙ simp append_assoc in
+    pub inst_adds : (v : SigTy) (value : Bool) (coded : ℕ) (args : List SigTy) (o0 o1 o2 o3 : List ℕ) → v ≡ ty.Inst value coded args → o1 ≡ o0 ++ 0x15 ∷ [] → Adds (Behind (named_byte value) IsPacked) o1 o2 coded
+        → Adds (Counted (I Plain)) o2 o3 args → Adds (Layer I slot) o0 o3 v
+    inst_adds v value coded args o0 o1 o2 o3 is e1 (bs, e2, (cs, m, pc)) (ts, e3, ca) =
+        let all : o3 ≡ o0 ++ (0x15 ∷ named_byte value ∷ cs ++ ts) = e3 ∙ ap (λ (l : List ℕ). l ++ ts) (e2 ∙ ap (λ (l : List ℕ). l ++ bs) e1 ∙ ap (λ (l : List ℕ). (o0 ++ 0x15 ∷ []) ++ l) m) ∙ simp append_assoc in
         (0x15 ∷ named_byte value ∷ cs ++ ts, all, subst (λ (x : SigTy). Layer I slot (0x15 ∷ named_byte value ∷ cs ++ ts) x) (sym is) (inst value args cs ts pc ca))
 
-    pub modified_adds : (v t : SigTy) (required : Bool) (coded k : ℕ) (s : Slot) (o0 o1 o2 o3 : List ℕ) → v ≡ ty.Modified required coded t → k ≡ modifier_byte required → s ≡ kept slot → o1 ≡ o0 ++ k ∷ []
-        → Adds IsPacked o1 o2 coded → Adds (I s) o2 o3 t → Adds (Layer I slot) o0 o3 v
-    modified_adds v t required coded k s o0 o1 o2 o3 is ks ss e1 (cs, e2, pc) (ts, e3, it) =
-        let first : o1 ≡ o0 ++ modifier_byte required ∷ [] = e1 ∙ ap (λ (n : ℕ). o0 ++ n ∷ []) ks in
-        let all : o3 ≡ o0 ++ (modifier_byte required ∷ cs ++ ts) = e3 ∙ ap (λ (l : List ℕ). l ++ ts) (e2 ∙ ap (λ (l : List ℕ). l ++ cs) first) ∙ simp append_assoc in
-        let inner : I (kept slot) ts t = subst (λ (z : Slot). I z ts t) ss it in
-        (modifier_byte required ∷ cs ++ ts, all, subst (λ (x : SigTy). Layer I slot (modifier_byte required ∷ cs ++ ts) x) (sym is) (modified required cs ts pc inner))
+    pub modified_adds : (v t : SigTy) (required : Bool) (coded : ℕ) (o0 o1 o2 : List ℕ) → v ≡ ty.Modified required coded t → Adds (Behind (modifier_byte required) IsPacked) o0 o1 coded → Adds (I (kept slot)) o1 o2 t → Adds (Layer I slot) o0 o2 v
+    modified_adds v t required coded o0 o1 o2 is (bs, e1, (cs, m, pc)) (ts, e2, it) =
+        let all : o2 ≡ o0 ++ (modifier_byte required ∷ cs ++ ts) = e2 ∙ ap (λ (l : List ℕ). l ++ ts) (e1 ∙ ap (λ (l : List ℕ). o0 ++ l) m) ∙ simp append_assoc in
+        (modifier_byte required ∷ cs ++ ts, all, subst (λ (x : SigTy). Layer I slot (modifier_byte required ∷ cs ++ ts) x) (sym is) (modified required cs ts pc it))
 
 -- ---- depth
 

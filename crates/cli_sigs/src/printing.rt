@@ -5,7 +5,7 @@ ghost use Rattle.cli_sigs.specs.declared.types.SigTy.{SigTy, out-SigTy};
 ghost use Rattle.cli_sigs.specs.declared.types.MethodSig.{MethodSig};
 ghost use Rattle.cli_sigs.specs.Methods.{is_generic};
 ghost use Rattle.cli_sigs.specs.Numbers.{IsPacked, IsSigned, unrotated};
-ghost use Rattle.cli_sigs.specs.Grammar.{Adds, Counted, Each, IsGenerics, IsParams, IsMethod, IsType, Layer, IsMethodSig, IsLocals, IsTypeSpec, IsMethodSpec, named_byte, modifier_byte};
+ghost use Rattle.cli_sigs.specs.Grammar.{Adds, Behind, Counted, Each, IsGenerics, IsParams, IsMethod, IsType, Layer, IsMethodSig, IsLocals, IsTypeSpec, IsMethodSpec, named_byte, modifier_byte};
 ghost use Rattle.cli_sigs.specs.Valid.{IsShort, IsShortSigned, AllCounted, AreGenerics, StandsBefore, IsValidMethod, IsValidForm, IsValidType, IsValidMethodSig, AreValidLocals, IsValidTypeSpec, IsValidMethodSpec};
 
 use crate::elements::{MethodKind, Slot};
@@ -39,6 +39,15 @@ fn push_number(out: &mut Bytes, n: u32) -> Result<(), AllocError>
     ensures { OnOk result (Adds IsPacked out.old out.new n) }
 {
     push_packed(out, n)
+}
+
+/// A byte and a number.
+fn push_coded(out: &mut Bytes, first: u8, n: u32) -> Result<(), AllocError>
+    requires { IsShort n }
+    ensures { OnOk result (Adds (Behind first IsPacked) out.old out.new n) }
+{
+    out.push(first)?;
+    push_number(out, n)
 }
 
 /// The unsigned number that is read as `z` where signed ones reach from -half to half - 1.
@@ -203,6 +212,22 @@ fn push_method(
     push_params(out, depth, sig.params.as_slice(), sig.sentinel)
 }
 
+/// A byte, and behind it a type that is nested at most `depth` deep.
+#[cycle(printer)]
+fn push_behind(
+    out: &mut Bytes,
+    first: u8,
+    depth: u32,
+    slot: Slot,
+    ty: &SigTy,
+) -> Result<(), AllocError>
+    requires { IsValidType depth slot ty.now }
+    ensures { OnOk result (Adds (Behind first (IsType depth slot)) out.old out.new ty.now) }
+{
+    out.push(first)?;
+    push_type(out, depth, slot, ty)
+}
+
 /// A type whose parts are nested at most `depth` deep.
 #[cycle(printer)]
 fn push_form(out: &mut Bytes, depth: u32, slot: Slot, ty: &SigTy) -> Result<(), AllocError>
@@ -211,65 +236,41 @@ fn push_form(out: &mut Bytes, depth: u32, slot: Slot, ty: &SigTy) -> Result<(), 
 {
     match ty {
         SigTy::Prim(b) => out.push(*b),
-        SigTy::Ptr(inner) => {
-            out.push(0x0F)?;
-            push_type(out, depth, Slot::Pointed, inner.get())
-        }
-        SigTy::ByRef(inner) => {
-            out.push(0x10)?;
-            push_type(out, depth, Slot::Plain, inner.get())
-        }
-        SigTy::Named { value, coded } => {
-            out.push(named_byte(*value))?;
-            push_number(out, *coded)
-        }
-        SigTy::Var(n) => {
-            out.push(0x13)?;
-            push_number(out, *n)
-        }
-        SigTy::MVar(n) => {
-            out.push(0x1E)?;
-            push_number(out, *n)
-        }
+        SigTy::Ptr(inner) => push_behind(out, 0x0F, depth, Slot::Pointed, inner.get()),
+        SigTy::ByRef(inner) => push_behind(out, 0x10, depth, Slot::Plain, inner.get()),
+        SigTy::Named { value, coded } => push_coded(out, named_byte(*value), *coded),
+        SigTy::Var(n) => push_coded(out, 0x13, *n),
+        SigTy::MVar(n) => push_coded(out, 0x1E, *n),
         SigTy::Array {
             item,
             rank,
             sizes,
             lows,
         } => {
-            out.push(0x14)?;
-            push_type(out, depth, Slot::Plain, item.get())?;
+            push_behind(out, 0x14, depth, Slot::Plain, item.get())?;
             push_number(out, *rank)?;
             push_numbers(out, sizes.as_slice())?;
             push_bounds(out, lows.as_slice())
         }
         SigTy::Inst { value, coded, args } => {
             out.push(0x15)?;
-            out.push(named_byte(*value))?;
-            push_number(out, *coded)?;
+            push_coded(out, named_byte(*value), *coded)?;
             push_types(out, depth, Slot::Plain, args.as_slice())
         }
         SigTy::Func(method) => {
             out.push(0x1B)?;
             push_method(out, depth, MethodKind::Pointer, method.get())
         }
-        SigTy::SzArray(inner) => {
-            out.push(0x1D)?;
-            push_type(out, depth, Slot::Plain, inner.get())
-        }
+        SigTy::SzArray(inner) => push_behind(out, 0x1D, depth, Slot::Plain, inner.get()),
         SigTy::Modified {
             required,
             coded,
             inner,
         } => {
-            out.push(modifier_byte(*required))?;
-            push_number(out, *coded)?;
+            push_coded(out, modifier_byte(*required), *coded)?;
             push_type(out, depth, slot.kept(), inner.get())
         }
-        SigTy::Pinned(inner) => {
-            out.push(0x45)?;
-            push_type(out, depth, slot.kept(), inner.get())
-        }
+        SigTy::Pinned(inner) => push_behind(out, 0x45, depth, slot.kept(), inner.get()),
     }
 }
 

@@ -10,5 +10,7 @@ pub mod FitLaws
 pub mod ShapeLaws
 pub mod GrowthLaws
 pub mod SetLaws
+pub mod BlankLaws
 pub mod PieceLaws
 pub mod WrittenLaws
+pub mod KeptFitLaws

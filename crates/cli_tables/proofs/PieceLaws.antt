@@ -33,11 +33,6 @@ pieces_more f n =
 pub pieces_suc : (f : ℕ → List ℕ) (n : ℕ) → pieces f (suc n) ≡ pieces f n ++ f n
 pieces_suc f n = ap (pieces f) (sym (add-one n)) ∙ pieces_more f n
 
-pub pieces_same : (f g : ℕ → List ℕ) (n : ℕ) → ((k : ℕ) → k < n → f k ≡ g k) → pieces f n ≡ pieces g n
-pieces_same f g zero h = pieces_none f ∙ sym (pieces_none g)
-pieces_same f g (suc n) h =
-    pieces_suc f n ∙ ap (λ (l : List ℕ). l ++ f n) (pieces_same f g n (λ k lt. h k (omega (arith, lt)))) ∙ ap (λ (l : List ℕ). pieces g n ++ l) (h n (omega arith)) ∙ sym (pieces_suc g n)
-
 -- The piece stands at the place.
 pub record IsAt (bytes : List ℕ) (at : ℕ) (piece : List ℕ) : Type 0 where
   pub before : List ℕ

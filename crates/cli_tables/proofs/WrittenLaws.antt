@@ -14,7 +14,7 @@ use Rattle.cil_base.specs.declared.refusal.Fault.TheVariants.{Refused, Memory}
 use Rattle.cil_base.specs.Refusals.{NoneBroken, Fails, OnRefused}
 use Rattle.cli_heaps.specs.Root as root
 use Rattle.cli_heaps.specs.Growth.{Growths}
-use Rattle.cli_heaps.specs.Written.{filled, IsWritten, limit_tests}
+use Rattle.cli_heaps.specs.Written.{filled, parts, written, IsWritten, limit_tests}
 use Rattle.cli_tables.specs.declared.schema.Column.TheVariants.{U8, U16, U32, StringIndex, GuidIndex, BlobIndex, Row, FirstRow, Coded}
 use Rattle.cli_tables.specs.declared.schema.Column.{Column}
 use Rattle.cli_tables.specs.declared.sizes.Sizes.{Sizes}
@@ -54,7 +54,6 @@ length_counts sizes tables fit = ap (λ (l : List ℕ). length l) fit.counts ∙
 length_cells : (s : Sizes) (t : ℕ) (columns : List (List ℕ)) (row n : ℕ) → n ≤ length (columns_of t) → length (pieces (cell_bytes s t columns row) n) ≡ offset_of s t n
 length_cells s t columns row zero le = ap (λ (l : List ℕ). length l) (pieces_none (cell_bytes s t columns row))
 length_cells s t columns row (suc n) le =
-    let f : ℕ → List ℕ = cell_bytes s t columns row in
     let more : offset_of s t (suc n) ≡ offset_of s t n + width_of s (kind_of t n) = ap (offset_of s t) (sym (add-one n)) ∙ offset_more s t n (omega (arith, le)) in
     omega (
       arith,
@@ -73,7 +72,6 @@ length_row s t columns row =
 length_rows : (s : Sizes) (t : ℕ) (columns : List (List ℕ)) (n : ℕ) → length (pieces (row_bytes s t columns) n) ≡ n * row_width s t
 length_rows s t columns zero = ap (λ (l : List ℕ). length l) (pieces_none (row_bytes s t columns)) ∙ omega arith
 length_rows s t columns (suc n) =
-    let w : ℕ = row_width s t in
     omega (
       arith,
       ap (λ (l : List ℕ). length l) (pieces_suc (row_bytes s t columns) n),
@@ -121,7 +119,6 @@ at_filled bytes = at_first bytes (replicate ((4 - length bytes % 4) % 4) 0)
 
 length_filled : (bytes : List ℕ) → length (filled bytes) % 4 ≡ 0
 length_filled bytes =
-    let n : ℕ = length bytes in
     omega (arith, length-append bytes (replicate ((4 - length bytes % 4) % 4) 0), length-replicate {A = ℕ} ((4 - length bytes % 4) % 4) 0)
 
 stream_is : (old : List ℕ) (sizes : Sizes) (tables : List (List (List ℕ)))
@@ -141,9 +138,6 @@ module _ (old : List ℕ) (sizes : Sizes) (tables : List (List (List ℕ))) (who
 
   abbrev rows : List ℕ
   rows = pieces (table_bytes sizes tables) 45
-
-  abbrev valid : ℕ
-  valid = bits_of (has_rows sizes) 64
 
   first_six : length (take 6 old) ≡ 6
   first_six = length-take-le 6 old (omega (arith, whole))
@@ -219,7 +213,6 @@ module _ (old : List ℕ) (sizes : Sizes) (tables : List (List (List ℕ))) (who
 
   valid_is : num stream 8 8 ≡ bits_of (has_rows sizes) 64
   valid_is =
-      let n : ℕ = bits_of (has_rows sizes) 64 in
       at_number stream 8 8 (bits_of (has_rows sizes) 64)
       (at_moved stream (number_bytes 8 (bits_of (has_rows sizes) 64)) (8 + 0) 8
       (at_in stream (number_bytes 8 (bits_of (has_rows sizes) 64) ++ take 8 (drop 16 old)) (number_bytes 8 (bits_of (has_rows sizes) 64)) 8 0 ends_at
@@ -287,8 +280,6 @@ module _ (old : List ℕ) (sizes : Sizes) (tables : List (List (List ℕ))) (who
 
   cell_written : (t c k : ℕ) → c < length (columns_of t) → k < count_of sizes t → cell_in stream sizes (rows_start stream) t (k + 1) c ≡ get_or (column_of tables t c) k 0
   cell_written t c k lt below =
-      let cs : List (List ℕ) = get_or tables t [] in
-      let n : ℕ = rows_start stream + bytes_below sizes t in
       let cell_at : IsAt (row_bytes sizes t (get_or tables t []) k) (length (pieces (cell_bytes sizes t (get_or tables t []) k) c)) (cell_bytes sizes t (get_or tables t []) k c) = at_piece (cell_bytes sizes t (get_or tables t []) k) (length (columns_of t)) c lt in
       let row_at : IsAt (table_bytes sizes tables t) (length (pieces (row_bytes sizes t (get_or tables t [])) k)) (row_bytes sizes t (get_or tables t []) k) = at_piece (row_bytes sizes t (get_or tables t [])) (count_of sizes t) k below in
       let all = at_in stream (table_bytes sizes tables t) (cell_bytes sizes t (get_or tables t []) k c) (rows_start stream + bytes_below sizes t) (length (pieces (row_bytes sizes t (get_or tables t [])) k) + length (pieces (cell_bytes sizes t (get_or tables t []) k) c)) (table_at t (is_read t c lt))
@@ -440,3 +431,6 @@ module _ (r : Result (List ℕ) Fault) (meta old : List ℕ) (grown : Growths) (
 
   pub refused_kept : OnRefused r (Fails (limit_tests meta grown stream)) → OnRefused r (λ x. IsOverfull ts x ⊎ Fails (limit_tests meta grown (stream_in meta grown ts)) x)
   refused_kept h = refused_also r (IsOverfull ts) (Fails (limit_tests meta grown (stream_in meta grown ts))) (subst (λ (l : List ℕ). OnRefused r (Fails (limit_tests meta grown l))) stream_same h)
+
+  pub bytes_kept : IfOk r (λ new. new ≡ written meta (parts meta grown stream)) → IfOk r (λ new. new ≡ written meta (parts meta grown (stream_in meta grown ts)))
+  bytes_kept h = subst (λ (l : List ℕ). IfOk r (λ new. new ≡ written meta (parts meta grown l))) stream_same h

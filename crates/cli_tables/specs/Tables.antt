@@ -1,5 +1,6 @@
 -- Tables as contracts see them (ECMA-335, II.22): by rising number, each as its columns, each as the cells of its rows in order.
-use Rattle.std.specs.Prelude.{◌≡◌, ℕ, ◌+◌, ◌-◌, ◌^◌, ◌<◌, ◌≤◌, Bool, true, false, ◌&&◌, ◌==◌, nat_lt, nat_le, List, [], ◌∷◌, map, length, get_or, slice_get, Option, Some, None, if◌then◌else◌}
+use Rattle.std.specs.Prelude.{replicate, ◌≡◌, ℕ, ◌+◌, ◌-◌, ◌^◌, ◌<◌, ◌≤◌, Bool, true, false, ◌&&◌, ◌==◌, nat_lt, nat_le, List, [], ◌∷◌, map, length, get_or, slice_get, Option, Some, None, if◌then◌else◌}
+use Rattle.std.specs.List.{range_with_len}
 use Rattle.lane_cols.specs.Places.{places}
 use Rattle.cli_tables.specs.declared.schema.Column.{Column}
 use Rattle.cli_tables.specs.declared.schema.Column.TheVariants.{U8, U16}
@@ -34,6 +35,14 @@ pub record IsShaped (tables : List (List (List ℕ))) : Type 0 where
   pub rows : (table column : ℕ) → column < length (columns_of table) → length (column_of tables table column) ≡ rows_of tables table
   pub few : (table : ℕ) → rows_of tables table < 2 ^ 32
   pub fits : (table column k : ℕ) → get_or (column_of tables table column) k 0 < limit_of (kind_of table column)
+
+-- a table with its columns, without rows
+abbrev pub blank_table : ℕ → List (List ℕ)
+blank_table table = replicate (length (columns_of table)) []
+
+-- all tables, without rows
+unfoldable pub blank_tables : List (List (List ℕ))
+blank_tables = map blank_table (range_with_len 0 45)
 
 -- ---- changes
 

@@ -4,7 +4,7 @@ ghost use Rattle.std.specs.List.{range_with_len};
 ghost use Rattle.cil_base.specs.Refusals.{First, NoneBroken, OnRefused, first_of};
 ghost use Rattle.cli_tables.specs.Stream.{sizes_of, rows_start};
 ghost use Rattle.cli_tables.specs.Layout.{table_start, row_end, whole_table, tables_in};
-ghost use Rattle.cli_tables.specs.Tables.{rows_in};
+ghost use Rattle.cli_tables.specs.Tables.{rows_in, blank_tables};
 ghost use Rattle.cli_tables.specs.TableRules.{Broken, BrokenIn};
 
 use crate::rules::first_in_table;
@@ -94,6 +94,17 @@ pub fn read_tables(
         };
         push(&mut tables, read)?;
         start += sizes.table_bytes(table);
+    }
+    Ok(tables)
+}
+
+/// All tables, without rows.
+pub fn blank_tables(alloc: Global) -> Result<Vec<Table>, AllocError>
+    ensures { IfOk result (λ ts. ts.items ≡ blank_tables) }
+{
+    let mut tables = Vec::new(alloc);
+    for table in 0..45u8 {
+        push(&mut tables, Table::blank(alloc, table)?)?;
     }
     Ok(tables)
 }

@@ -36,197 +36,138 @@ pub enum Column {
     Coded(CodedIndex),
 }
 
+use CodedIndex::{
+    CustomAttributeType, HasConstant, HasCustomAttribute, HasDeclSecurity, HasFieldMarshal,
+    HasSemantics, Implementation, MemberForwarded, MemberRefParent, MethodDefOrRef,
+    ResolutionScope, TypeDefOrRef, TypeOrMethodDef,
+};
+use Column::{BlobIndex, Coded, FirstRow, GuidIndex, Row, StringIndex, U8, U16, U32};
+
 /// How many numbers of tables are told apart; those above are not read.
 pub const TABLE_COUNT: usize = 45;
 
 static TABLES: [&[Column]; 45] = [
     // 00 Module
-    &[
-        Column::U16,
-        Column::StringIndex,
-        Column::GuidIndex,
-        Column::GuidIndex,
-        Column::GuidIndex,
-    ],
+    &[U16, StringIndex, GuidIndex, GuidIndex, GuidIndex],
     // 01 TypeRef
-    &[
-        Column::Coded(CodedIndex::ResolutionScope),
-        Column::StringIndex,
-        Column::StringIndex,
-    ],
+    &[Coded(ResolutionScope), StringIndex, StringIndex],
     // 02 TypeDef
     &[
-        Column::U32,
-        Column::StringIndex,
-        Column::StringIndex,
-        Column::Coded(CodedIndex::TypeDefOrRef),
-        Column::FirstRow(0x04),
-        Column::FirstRow(0x06),
+        U32,
+        StringIndex,
+        StringIndex,
+        Coded(TypeDefOrRef),
+        FirstRow(0x04),
+        FirstRow(0x06),
     ],
     // 03 is not read
     &[],
     // 04 Field
-    &[Column::U16, Column::StringIndex, Column::BlobIndex],
+    &[U16, StringIndex, BlobIndex],
     // 05 is not read
     &[],
     // 06 MethodDef
-    &[
-        Column::U32,
-        Column::U16,
-        Column::U16,
-        Column::StringIndex,
-        Column::BlobIndex,
-        Column::FirstRow(0x08),
-    ],
+    &[U32, U16, U16, StringIndex, BlobIndex, FirstRow(0x08)],
     // 07 is not read
     &[],
     // 08 Param
-    &[Column::U16, Column::U16, Column::StringIndex],
+    &[U16, U16, StringIndex],
     // 09 InterfaceImpl
-    &[Column::Row(0x02), Column::Coded(CodedIndex::TypeDefOrRef)],
+    &[Row(0x02), Coded(TypeDefOrRef)],
     // 0A MemberRef
-    &[
-        Column::Coded(CodedIndex::MemberRefParent),
-        Column::StringIndex,
-        Column::BlobIndex,
-    ],
+    &[Coded(MemberRefParent), StringIndex, BlobIndex],
     // 0B Constant
-    &[
-        Column::U8,
-        Column::U8,
-        Column::Coded(CodedIndex::HasConstant),
-        Column::BlobIndex,
-    ],
+    &[U8, U8, Coded(HasConstant), BlobIndex],
     // 0C CustomAttribute
     &[
-        Column::Coded(CodedIndex::HasCustomAttribute),
-        Column::Coded(CodedIndex::CustomAttributeType),
-        Column::BlobIndex,
+        Coded(HasCustomAttribute),
+        Coded(CustomAttributeType),
+        BlobIndex,
     ],
     // 0D FieldMarshal
-    &[
-        Column::Coded(CodedIndex::HasFieldMarshal),
-        Column::BlobIndex,
-    ],
+    &[Coded(HasFieldMarshal), BlobIndex],
     // 0E DeclSecurity
-    &[
-        Column::U16,
-        Column::Coded(CodedIndex::HasDeclSecurity),
-        Column::BlobIndex,
-    ],
+    &[U16, Coded(HasDeclSecurity), BlobIndex],
     // 0F ClassLayout
-    &[Column::U16, Column::U32, Column::Row(0x02)],
+    &[U16, U32, Row(0x02)],
     // 10 FieldLayout
-    &[Column::U32, Column::Row(0x04)],
+    &[U32, Row(0x04)],
     // 11 StandAloneSig
-    &[Column::BlobIndex],
+    &[BlobIndex],
     // 12 EventMap
-    &[Column::Row(0x02), Column::FirstRow(0x14)],
+    &[Row(0x02), FirstRow(0x14)],
     // 13 is not read
     &[],
     // 14 Event
-    &[
-        Column::U16,
-        Column::StringIndex,
-        Column::Coded(CodedIndex::TypeDefOrRef),
-    ],
+    &[U16, StringIndex, Coded(TypeDefOrRef)],
     // 15 PropertyMap
-    &[Column::Row(0x02), Column::FirstRow(0x17)],
+    &[Row(0x02), FirstRow(0x17)],
     // 16 is not read
     &[],
     // 17 Property
-    &[Column::U16, Column::StringIndex, Column::BlobIndex],
+    &[U16, StringIndex, BlobIndex],
     // 18 MethodSemantics
-    &[
-        Column::U16,
-        Column::Row(0x06),
-        Column::Coded(CodedIndex::HasSemantics),
-    ],
+    &[U16, Row(0x06), Coded(HasSemantics)],
     // 19 MethodImpl
-    &[
-        Column::Row(0x02),
-        Column::Coded(CodedIndex::MethodDefOrRef),
-        Column::Coded(CodedIndex::MethodDefOrRef),
-    ],
+    &[Row(0x02), Coded(MethodDefOrRef), Coded(MethodDefOrRef)],
     // 1A ModuleRef
-    &[Column::StringIndex],
+    &[StringIndex],
     // 1B TypeSpec
-    &[Column::BlobIndex],
+    &[BlobIndex],
     // 1C ImplMap
-    &[
-        Column::U16,
-        Column::Coded(CodedIndex::MemberForwarded),
-        Column::StringIndex,
-        Column::Row(0x1A),
-    ],
+    &[U16, Coded(MemberForwarded), StringIndex, Row(0x1A)],
     // 1D FieldRVA
-    &[Column::U32, Column::Row(0x04)],
+    &[U32, Row(0x04)],
     // 1E is not read
     &[],
     // 1F is not read
     &[],
     // 20 Assembly
     &[
-        Column::U32,
-        Column::U16,
-        Column::U16,
-        Column::U16,
-        Column::U16,
-        Column::U32,
-        Column::BlobIndex,
-        Column::StringIndex,
-        Column::StringIndex,
+        U32,
+        U16,
+        U16,
+        U16,
+        U16,
+        U32,
+        BlobIndex,
+        StringIndex,
+        StringIndex,
     ],
     // 21 AssemblyProcessor
-    &[Column::U32],
+    &[U32],
     // 22 AssemblyOS
-    &[Column::U32, Column::U32, Column::U32],
+    &[U32, U32, U32],
     // 23 AssemblyRef
     &[
-        Column::U16,
-        Column::U16,
-        Column::U16,
-        Column::U16,
-        Column::U32,
-        Column::BlobIndex,
-        Column::StringIndex,
-        Column::StringIndex,
-        Column::BlobIndex,
+        U16,
+        U16,
+        U16,
+        U16,
+        U32,
+        BlobIndex,
+        StringIndex,
+        StringIndex,
+        BlobIndex,
     ],
     // 24 AssemblyRefProcessor
-    &[Column::U32, Column::Row(0x23)],
+    &[U32, Row(0x23)],
     // 25 AssemblyRefOS
-    &[Column::U32, Column::U32, Column::U32, Column::Row(0x23)],
+    &[U32, U32, U32, Row(0x23)],
     // 26 File
-    &[Column::U32, Column::StringIndex, Column::BlobIndex],
+    &[U32, StringIndex, BlobIndex],
     // 27 ExportedType
-    &[
-        Column::U32,
-        Column::U32,
-        Column::StringIndex,
-        Column::StringIndex,
-        Column::Coded(CodedIndex::Implementation),
-    ],
+    &[U32, U32, StringIndex, StringIndex, Coded(Implementation)],
     // 28 ManifestResource
-    &[
-        Column::U32,
-        Column::U32,
-        Column::StringIndex,
-        Column::Coded(CodedIndex::Implementation),
-    ],
+    &[U32, U32, StringIndex, Coded(Implementation)],
     // 29 NestedClass
-    &[Column::Row(0x02), Column::Row(0x02)],
+    &[Row(0x02), Row(0x02)],
     // 2A GenericParam
-    &[
-        Column::U16,
-        Column::U16,
-        Column::Coded(CodedIndex::TypeOrMethodDef),
-        Column::StringIndex,
-    ],
+    &[U16, U16, Coded(TypeOrMethodDef), StringIndex],
     // 2B MethodSpec
-    &[Column::Coded(CodedIndex::MethodDefOrRef), Column::BlobIndex],
+    &[Coded(MethodDefOrRef), BlobIndex],
     // 2C GenericParamConstraint
-    &[Column::Row(0x2A), Column::Coded(CodedIndex::TypeDefOrRef)],
+    &[Row(0x2A), Coded(TypeDefOrRef)],
 ];
 
 static TYPE_DEF_OR_REF: [Option<u8>; 3] = [Some(0x02), Some(0x01), Some(0x1B)];
@@ -306,19 +247,19 @@ impl CodedIndex {
         ensures { result.now ≡ coded_tables self }
     {
         match self {
-            CodedIndex::TypeDefOrRef => &TYPE_DEF_OR_REF,
-            CodedIndex::HasConstant => &HAS_CONSTANT,
-            CodedIndex::HasCustomAttribute => &HAS_CUSTOM_ATTRIBUTE,
-            CodedIndex::HasFieldMarshal => &HAS_FIELD_MARSHAL,
-            CodedIndex::HasDeclSecurity => &HAS_DECL_SECURITY,
-            CodedIndex::MemberRefParent => &MEMBER_REF_PARENT,
-            CodedIndex::HasSemantics => &HAS_SEMANTICS,
-            CodedIndex::MethodDefOrRef => &METHOD_DEF_OR_REF,
-            CodedIndex::MemberForwarded => &MEMBER_FORWARDED,
-            CodedIndex::Implementation => &IMPLEMENTATION,
-            CodedIndex::CustomAttributeType => &CUSTOM_ATTRIBUTE_TYPE,
-            CodedIndex::ResolutionScope => &RESOLUTION_SCOPE,
-            CodedIndex::TypeOrMethodDef => &TYPE_OR_METHOD_DEF,
+            TypeDefOrRef => &TYPE_DEF_OR_REF,
+            HasConstant => &HAS_CONSTANT,
+            HasCustomAttribute => &HAS_CUSTOM_ATTRIBUTE,
+            HasFieldMarshal => &HAS_FIELD_MARSHAL,
+            HasDeclSecurity => &HAS_DECL_SECURITY,
+            MemberRefParent => &MEMBER_REF_PARENT,
+            HasSemantics => &HAS_SEMANTICS,
+            MethodDefOrRef => &METHOD_DEF_OR_REF,
+            MemberForwarded => &MEMBER_FORWARDED,
+            Implementation => &IMPLEMENTATION,
+            CustomAttributeType => &CUSTOM_ATTRIBUTE_TYPE,
+            ResolutionScope => &RESOLUTION_SCOPE,
+            TypeOrMethodDef => &TYPE_OR_METHOD_DEF,
         }
     }
 
@@ -328,19 +269,11 @@ impl CodedIndex {
         ensures small { result ≤ 5 }
     {
         match self {
-            CodedIndex::TypeDefOrRef => 2,
-            CodedIndex::HasConstant => 2,
-            CodedIndex::HasCustomAttribute => 5,
-            CodedIndex::HasFieldMarshal => 1,
-            CodedIndex::HasDeclSecurity => 2,
-            CodedIndex::MemberRefParent => 3,
-            CodedIndex::HasSemantics => 1,
-            CodedIndex::MethodDefOrRef => 1,
-            CodedIndex::MemberForwarded => 1,
-            CodedIndex::Implementation => 2,
-            CodedIndex::CustomAttributeType => 3,
-            CodedIndex::ResolutionScope => 2,
-            CodedIndex::TypeOrMethodDef => 1,
+            HasCustomAttribute => 5,
+            MemberRefParent | CustomAttributeType => 3,
+            TypeDefOrRef | HasConstant | HasDeclSecurity | Implementation | ResolutionScope => 2,
+            HasFieldMarshal | HasSemantics | MethodDefOrRef | MemberForwarded | TypeOrMethodDef =>
+                1,
         }
     }
 

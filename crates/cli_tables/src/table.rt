@@ -5,6 +5,7 @@ ghost use Rattle.cli_tables.specs.Schema.{columns_of};
 ghost use Rattle.cli_tables.specs.Stream.{is_width, strided, row_width, width_of, offset_of};
 ghost use Rattle.cli_tables.specs.Layout.{table_in};
 ghost use Rattle.cli_tables.specs.Growth.{IsPushed, IsPopped};
+ghost use Rattle.cli_tables.specs.Tables.{blank_table};
 
 use crate::schema::columns;
 use crate::sizes::Sizes;
@@ -88,6 +89,17 @@ fn read_column(
 }
 
 impl Table {
+    /// A table with columns and without rows.
+    pub fn blank(alloc: Global, table: u8) -> Result<Table, AllocError>
+        ensures { IfOk result (λ t. t ≡ blank_table table) }
+    {
+        let mut blank = Vec::new(alloc);
+        for _column in 0..columns(table).len() {
+            blank.push(U32s::new(alloc))?;
+        }
+        Ok(Table { columns: blank })
+    }
+
     /// Reads so many rows that stand one after another.
     pub fn read(
         alloc: Global,

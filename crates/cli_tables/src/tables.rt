@@ -2,17 +2,19 @@
 ghost use Rattle.std.specs.Prelude.{◌≡◌, ◌⊎◌, ℕ, ◌+◌, ◌-◌, ◌<◌, ◌≤◌, ◌^◌, ◌++◌, ◌↔◌, length, map, IsSome, MatchOption, IfOk, OnOk, OnErr, true};
 ghost use Rattle.cil_base.specs.Refusals.{First, NoneBroken, InTurn, Fails, OnRefused};
 ghost use Rattle.cli_heaps.specs.Root.{tables};
+ghost use Rattle.cli_heaps.specs.Growth.{Growths};
 ghost use Rattle.cli_tables.specs.TableRules.{HeaderBroken, RowsBroken};
 ghost use Rattle.lane_cols.specs.Places.{places};
 ghost use Rattle.cli_tables.specs.Schema.{columns_of};
-ghost use Rattle.cli_tables.specs.Tables.{column_of, rows_of, cell_of, HasCell, IsShaped, AreIn, IsRow, IsAppended, IsSet, fits_column, rows_with};
+ghost use Rattle.cli_tables.specs.Tables.{column_of, rows_of, cell_of, HasCell, IsShaped, AreIn, IsRow, IsAppended, IsSet, fits_column, rows_with, blank_tables};
 ghost use Rattle.cli_tables.specs.Stream.{kind_of};
+ghost use Rattle.cli_tables.specs.Layout.{tables_in};
 ghost use Rattle.cli_tables.specs.Growth.{table_full};
 ghost use Rattle.cli_tables.specs.Written.{counts_to, is_many, sizes_to, stream_in, column_fits, table_fits, indexes_fit, NoneFull, IsOverfull, AreOfOne, Holds};
-ghost use Rattle.cli_heaps.specs.Written.{filled, GrewFrom, IsWritten, EntriesRead, limit_tests};
+ghost use Rattle.cli_heaps.specs.Written.{filled, parts, written, GrewFrom, IsWritten, EntriesRead, limit_tests};
 
 use crate::header::first_in_header;
-use crate::reading::read_tables;
+use crate::reading::{blank_tables, read_tables};
 use crate::schema::{TABLE_COUNT, columns};
 use crate::sizes::{Sizes, read_sizes, rows_start_of};
 use crate::table::Table;
@@ -46,9 +48,12 @@ impl Tables {
     /// broken place: M3 on the header; else, by table, row and column, M4 to M7.
     pub fn read(alloc: Global, heaps: &Heaps<'_>, assembly: u32) -> Result<Tables, Fault>
         ensures cells { IfOk result (AreIn (tables heaps.now.bytes)) }
+        ensures exact { IfOk result (λ t. t ≡ tables_in (tables heaps.now.bytes)) }
         ensures shaped { IfOk result IsShaped }
         ensures header { OnOk result (NoneBroken (HeaderBroken heaps.now.bytes assembly)) }
         ensures accepted { OnOk result (NoneBroken (RowsBroken heaps.now.bytes assembly)) }
+        // They meet the condition of `write`, whatever is appended to the heaps.
+        ensures fit { IfOk result (λ t. (g : Growths) → indexes_fit (sizes_to heaps.now.bytes g t) t ≡ true) }
         ensures refused { OnRefused result (InTurn (HeaderBroken heaps.now.bytes assembly) (First (RowsBroken heaps.now.bytes assembly))) }
     {
         let stream = heaps.tables();
@@ -62,6 +67,16 @@ impl Tables {
             Ok(tables) => Ok(Tables { tables }),
             Err(fault) => Err(fault),
         }
+    }
+
+    /// Tables without rows, to be appended to.
+    pub fn blank(alloc: Global) -> Result<Tables, AllocError>
+        ensures blank { IfOk result (λ t. t ≡ blank_tables) }
+        ensures rows { (table : ℕ) → IfOk result (λ t. rows_of t table ≡ 0) }
+    {
+        Ok(Tables {
+            tables: blank_tables(alloc)?,
+        })
     }
 
     /// How many rows a table has; none where it is not read.
@@ -155,6 +170,7 @@ impl Tables {
         requires grew { GrewFrom heaps.now.bytes grown.now }
         requires fit { indexes_fit (sizes_to heaps.now.bytes grown.now self.now) self.now ≡ true }
         ensures written { IfOk result (IsWritten heaps.now.bytes grown.now (stream_in heaps.now.bytes grown.now self.now)) }
+        ensures bytes { IfOk result (λ new. new ≡ written heaps.now.bytes (parts heaps.now.bytes grown.now (stream_in heaps.now.bytes grown.now self.now))) }
         ensures entries { IfOk result (EntriesRead heaps.now.bytes grown.now) }
         ensures cells { IfOk result (λ new. AreIn (tables new) self.now) }
         ensures holds { IfOk result (λ new. Holds (tables heaps.now.bytes) (sizes_to heaps.now.bytes grown.now self.now) self.now (tables new)) }

@@ -1,4 +1,6 @@
-// Tables that are read, or refused at a place.
+// Tables that are read, or refused at a place, and written.
+ghost use Rattle.std.specs.Prelude.{◌<◌, ◌^◌};
+
 use crate::Tables;
 use cil_base::{Bytes, Fault, Rule};
 use cli_heaps::{HeapBuilder, Heaps};
@@ -204,6 +206,7 @@ fn many_rows_widen_the_indexes_that_name_them(rt: HostRuntime) -> Result<(), Fau
 }
 
 #[test]
+#[tactic(auto, unfolding(crate::specs::Schema::the_tables))]
 fn an_index_past_its_width_is_told(rt: HostRuntime) -> Result<(), Fault> {
     if let Ok(heaps) = Heaps::read(&META, 0) {
         let mut tables = Tables::read(rt.alloc(), &heaps, 0)?;

@@ -1,6 +1,5 @@
 -- What is written for the instructions reads back.
-use Rattle.std.proofs.Common.{◌≡◌, ◌⊎◌, ℕ, zero, suc, ◌+◌, ◌-◌, ◌*◌, ◌/◌, ◌%◌, ◌^◌, ◌<◌, ◌≤◌, Bool, true, false, ◌&&◌, ◌||◌, not, nat_eq, nat_lt, nat_le, ◌==◌, IsTrue, ℤ, pos, negsuc, List, [], ◌∷◌, ◌++◌, length, drop, get_or, Option, Some, None, Ok, Err, refl, sym, ap, ◌∙◌, ⊎_elim, length-append, lit≤, inl, inr, subst, arith, rules}
-use Rattle.std.specs.Prelude.{slice_get}
+use Rattle.std.proofs.Common.{◌≡◌, ◌⊎◌, ℕ, zero, suc, ◌+◌, ◌-◌, ◌*◌, ◌/◌, ◌%◌, ◌^◌, ◌<◌, ◌≤◌, Bool, true, false, ◌&&◌, ◌||◌, nat_eq, nat_lt, nat_le, ℤ, pos, negsuc, List, [], ◌∷◌, ◌++◌, length, get_or, Option, Some, None, Ok, refl, sym, ap, ◌∙◌, ⊎_elim, length-append, lit≤, inl, inr, subst, arith}
 use Rattle.std.specs.Int.{w8, w32, cast_signed, from_le_bytes, to_le_bytes}
 use Rattle.std.proofs.lemmas.Bool.{le-ltb, leb-true}
 use Rattle.std.proofs.lemmas.Option.{slice_get-get_or}
@@ -13,7 +12,7 @@ use Rattle.cil_model.specs.declared.ty.Under.{Under}
 use Rattle.cil_model.specs.declared.body.Operand.{Operand}
 use Rattle.cil_model.specs.declared.body.Operand.TheVariants.{Nothing, Int, Index, Target, Targets, Tok}
 use Rattle.cil_model.specs.declared.body.Instr.{Instr}
-use Rattle.cil_model.specs.SmallCode.{Reading, Reads, IsFirst, IsBranchAt, instr, instr_at, coded, second, is_bare, is_plain, is_branch_to, is_target_below, is_absent, is_bare_instr, fits, fits_32, number, spelled, spelling, encoded, begins, starts, displacement, AllWritable}
+use Rattle.cil_model.specs.SmallCode.{Reads, IsFirst, IsBranchAt, instr, instr_at, coded, is_bare, is_plain, is_branch_to, is_target_below, is_absent, is_bare_instr, fits, number, spelled, spelling, encoded, begins, starts, displacement, AllWritable}
 
 -- a bare code
 bare : (a op : ℕ) (rest : List ℕ) → is_bare op ≡ true → coded a op rest ≡ Ok (instr op Nothing, 1)

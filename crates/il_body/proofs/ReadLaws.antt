@@ -1,101 +1,202 @@
--- Instructions one after another, at offsets that rise.
-use Rattle.std.proofs.Common.{◌≡◌, ◌≢◌, ℕ, zero, suc, ◌+◌, ◌-◌, ◌<◌, ◌≤◌, List, [], ◌∷◌, ◌++◌, length, drop, get_or, Result, Ok, Err, refl, sym, ap, ◌∙◌, subst, arith, length-append, ⊎_elim}
-use Rattle.std.proofs.Math.ListN.{get_or-append}
-use Rattle.std.proofs.Math.Seq.{get_or-append_seam}
-use Rattle.std.proofs.lemmas.Bool.{cases_lt}
+-- What is read as an instruction can be written.
+use Rattle.std.proofs.Common.{◌≡◌, ℕ, zero, suc, ◌+◌, ◌*◌, ◌^◌, ◌<◌, ◌≤◌, Bool, true, false, cond, ◌&&◌, ℤ, List, [], ◌∷◌, length, drop, Option, Some, None, Ok, Err, Result, refl, sym, ap, subst, arith, ⊎_elim}
+use Rattle.std.specs.Prelude.{IfSome, find, is_some, nat_lt, nat_le, slice_get, ◌==◌}
+use Rattle.std.specs.Int.{w8, w32, w64, cast_signed}
+use Rattle.std.specs.List.{list_all}
+use Rattle.std.specs.Int.RustNames.{bit_or}
+use Rattle.std.proofs.lemmas.Grind.{common_steps}
+use Rattle.std.proofs.lemmas.Nat.{or_lt}
+use Rattle.cil_base.specs.declared.token.Token.{Token}
 use Rattle.cil_base.specs.declared.rule.Rule.{Rule}
+use Rattle.cil_base.specs.Numbers.{num_at}
+use Rattle.cil_base.specs.Tokens.{token_of}
 use Rattle.cil_model.specs.declared.body.Instr.{Instr}
-use Rattle.cil_model.specs.SmallCode.{Reading, Reads}
-use Rattle.cil_model.specs.BodyCode.{instr_at, prefixed}
-use Rattle.cil_model.specs.BodyOf.{IsInstr}
-use Rattle.il_body.specs.Answers.{Rise}
+use Rattle.cil_model.specs.declared.body.Operand.{Operand}
+use Rattle.cil_model.specs.declared.body.Operand.TheVariants.{Nothing, Int, Index, Target, Targets, Tok}
+use Rattle.cil_model.specs.declared.opcode.Opcode.{Opcode}
+use Rattle.cil_model.specs.declared.opcode.OperandKind.{OperandKind}
+use Rattle.cil_model.specs.declared.opcode.OperandKind.TheVariants as op
+use Rattle.cil_model.specs.Opcodes.{the_opcodes}
+use Rattle.cil_model.specs.SmallCode.{Reading}
+use Rattle.cil_model.specs.BodyCode.{behind, behind_code, cases, instr_at, landing, opcode_at, operand_at, prefixed, switch_of, token_at, widened, with_number, with_operand, with_type}
+use Rattle.il_body.specs.BodyEncoding.{AreBytes, IsSmallToken, is_within, spelling_of, takes, takes_index, takes_int, takes_targets, takes_token}
+use Rattle.il_body.proofs.Encoding.{both, less}
+use Rattle.il_body.proofs.KindLaws.{IsRow, bytes_drop, is_index16, is_int32, is_int32_number, is_int64, long_row, row_at, says_all, signed_8, signed_32, signed_64, small_at, small_byte, small_token, some_at}
+use Rattle.il_body.proofs.SpellingLaws.{passing, split}
 
-pub read_more : (First : ℕ → List ℕ → Instr → ℕ → Type 0) (at : ℕ) (bytes : List ℕ) (is : List Instr) (os : List ℕ) (end : ℕ) (rest : List ℕ) (i : Instr) (n : ℕ) → Reads First at bytes is os end rest → First end rest i n → Reads First at bytes (is ++ i ∷ []) (os ++ end ∷ []) (end + n) (drop n rest)
-read_more First at bytes [] [] end rest i n h f =
-    (h.0, (n, subst (λ b. First at b i n) h.1 (subst (λ a. First a rest i n) h.0 f), (ap (λ a. a + n) h.0, ap (drop n) h.1)))
-read_more First at bytes [] (o ∷ os) end rest i n h f = absurd h
-read_more First at bytes (x ∷ is) [] end rest i n h f = absurd h
-read_more First at bytes (x ∷ is) (o ∷ os) end rest i n h f =
-    (h.0, (h.1.0, h.1.1, read_more First (at + h.1.0) (drop h.1.0 bytes) is os end rest i n h.1.2 f))
+-- what is known of an operand that is read
+abbrev pub IsReadOperand : ℕ → Operand → Type 0
+IsReadOperand a Nothing = Unit {0}
+IsReadOperand a (Int z) = Unit {0}
+IsReadOperand a (Index k) = Unit {0}
+IsReadOperand a (Target k) = Unit {0}
+IsReadOperand a (Targets ks) = Unit {0}
+IsReadOperand a (Tok assembly token) = (assembly ≡ a) × IsSmallToken token
 
-pub below_more : (os : List ℕ) (o at : ℕ) → ((j : ℕ) → j < length os → get_or os j 0 < o) → o < at → (j : ℕ) → j < length (os ++ o ∷ []) → get_or (os ++ o ∷ []) j 0 < at
-below_more os o at below h j inside = ⊎_elim
-    (λ lt. let e = get_or-append os (o ∷ []) 0 j lt in let b = below j lt in omega arith)
-    (λ ge. let s : j ≡ length os = omega (arith, length-append os (o ∷ [])) in let e : get_or (os ++ o ∷ []) j 0 ≡ o = ap (λ (k : ℕ). get_or (os ++ o ∷ []) k 0) s ∙ get_or-append_seam os o [] 0 in omega arith)
-    (cases_lt j (length os))
+-- the operand is one that the longest spelling says
+record IsSaid (a : ℕ) (kind q : OperandKind) (x : Operand) : Type 0 where
+  pub said : takes q x ≡ true
+  pub operand : IsReadOperand a x
 
-pub rise_more : (os : List ℕ) (o : ℕ) → Rise os → ((j : ℕ) → j < length os → get_or os j 0 < o) → Rise (os ++ o ∷ [])
-rise_more os o rise below i j lt inside =
-    let size = length-append os (o ∷ []) in
-    let e = get_or-append os (o ∷ []) 0 i (omega arith) in
+int32_takes : (q : OperandKind) (z : ℤ) → is_int32 q ≡ true → is_int32_number z ≡ true → takes_int q z ≡ true
+int32_takes op.Int32 z h s = s
+int32_takes q z h s = absurd cc
+
+int64_takes : (q : OperandKind) (z : ℤ) → is_int64 q ≡ true → is_within (2 ^ 63) z ≡ true → takes_int q z ≡ true
+int64_takes op.Int64 z h s = s
+int64_takes q z h s = absurd cc
+
+index_takes : (q : OperandKind) (k : ℕ) → is_index16 q ≡ true → nat_lt k 0x10000 ≡ true → takes_index q k ≡ true
+index_takes op.Index16 k h s = s
+index_takes q k h s = absurd cc
+
+below : (m n : ℕ) → m < n → nat_lt m n ≡ true
+below m n h = grind (arith, common_steps)
+
+same_operand : (x y : Operand) (m n : ℕ) → let o : Option (Operand × ℕ) = Some (x, m) in o ≡ Some (y, n) → x ≡ y
+same_operand x y m n h = let e : (x, m) ≡ (y, n) = cc in ap (λ (p : Operand × ℕ). p.0) e
+
+-- a number that is read
+said_number : (a : ℕ) (kind q : OperandKind) (f : ℕ → Operand) (m : ℕ) (r : Option ℕ) (x : Operand) (n : ℕ) → with_number f m r ≡ Some (x, n) → ((v : ℕ) → r ≡ Some v → IsSaid a kind q (f v)) → IsSaid a kind q x
+said_number a kind q f m None x n h s = absurd cc
+said_number a kind q f m (Some v) x n h s = subst (IsSaid a kind q) (same_operand (f v) x m n h) (s v refl)
+
+said_token : (a : ℕ) (kind q : OperandKind) (bytes : List ℕ) (x : Operand) (n : ℕ) → AreBytes bytes → takes_token q ≡ true → token_at a bytes ≡ Some (x, n) → IsSaid a kind q x
+said_token a kind q bytes x n b t h = said_number a kind q (λ v. Tok a (token_of v)) 4 (num_at bytes 0 4) x n h (λ v e. let s = small_at bytes 0 4 v b e in record { said = t; operand = (refl, small_token v (omega arith)) })
+
+said_switch : (a at : ℕ) (kind q : OperandKind) (bytes : List ℕ) (r : Option ℕ) (x : Operand) (n : ℕ) → takes_targets q ≡ true → switch_of at bytes r ≡ Some (x, n) → IsSaid a kind q x
+said_switch a at kind q bytes None x n t h = absurd cc
+said_switch a at kind q bytes (Some count) x n t h = go (nat_le (4 + 4 * count) (length bytes)) h
+  where
+    go : (b : Bool) → cond {A = Option (Operand × ℕ)} b (Some (Targets (cases (at + 4 + 4 * count) (drop 4 bytes) count), 4 + 4 * count)) None ≡ Some (x, n) → IsSaid a kind q x
+    go true h = subst (IsSaid a kind q) (same_operand (Targets (cases (at + 4 + 4 * count) (drop 4 bytes) count)) x (4 + 4 * count) n h) (record { said = t; operand = tt })
+    go false h = absurd cc
+
+said : (a at : ℕ) (kind q : OperandKind) (bytes : List ℕ) (x : Operand) (n : ℕ) → AreBytes bytes → says_all kind q ≡ true → operand_at a at kind bytes ≡ Some (x, n) → IsSaid a kind q x
+said a at op.Nothing q bytes x n b t h = subst (IsSaid a op.Nothing q) (same_operand Nothing x 0 n h) (record { said = t; operand = tt })
+said a at op.Int8 q bytes x n b t h = said_number a op.Int8 q (λ v. Int (cast_signed w8 v)) 1 (slice_get bytes 0) x n h (λ v e. record { said = int32_takes q (cast_signed w8 v) t (signed_8 v (small_byte bytes v b e)); operand = tt })
+said a at op.Int32 q bytes x n b t h = said_number a op.Int32 q (λ v. Int (cast_signed w32 v)) 4 (num_at bytes 0 4) x n h (λ v e. let s = small_at bytes 0 4 v b e in record { said = int32_takes q (cast_signed w32 v) t (signed_32 v (omega arith)); operand = tt })
+said a at op.Int64 q bytes x n b t h = said_number a op.Int64 q (λ v. Int (cast_signed w64 v)) 8 (num_at bytes 0 8) x n h (λ v e. let s = small_at bytes 0 8 v b e in record { said = int64_takes q (cast_signed w64 v) t (signed_64 v (omega arith)); operand = tt })
+said a at op.Index8 q bytes x n b t h = said_number a op.Index8 q Index 1 (slice_get bytes 0) x n h (λ v e. let s = small_byte bytes v b e in record { said = index_takes q v t (below v 0x10000 (omega arith)); operand = tt })
+said a at op.Index16 q bytes x n b t h = said_number a op.Index16 q Index 2 (num_at bytes 0 2) x n h (λ v e. let s = small_at bytes 0 2 v b e in record { said = index_takes q v t (below v 0x10000 (omega arith)); operand = tt })
+said a at op.Target8 q bytes x n b t h = said_number a op.Target8 q (λ v. Target (landing (at + 1) (widened v))) 1 (slice_get bytes 0) x n h (λ v e. record { said = t; operand = tt })
+said a at op.Target32 q bytes x n b t h = said_number a op.Target32 q (λ v. Target (landing (at + 4) v)) 4 (num_at bytes 0 4) x n h (λ v e. record { said = t; operand = tt })
+said a at op.Targets q bytes x n b t h = said_switch a at op.Targets q bytes (num_at bytes 0 4) x n t h
+said a at op.TypeToken q bytes x n b t h = said_token a op.TypeToken q bytes x n b t h
+said a at op.FieldToken q bytes x n b t h = said_token a op.FieldToken q bytes x n b t h
+said a at op.MethodToken q bytes x n b t h = said_token a op.MethodToken q bytes x n b t h
+said a at op.StringToken q bytes x n b t h = said_token a op.StringToken q bytes x n b t h
+said a at op.AnyToken q bytes x n b t h = said_token a op.AnyToken q bytes x n b t h
+said a at (op.ThatIndex k) q bytes x n b t h =
+    let p = both (is_index16 q) (nat_lt k 0x10000) t in
+    subst (IsSaid a (op.ThatIndex k) q) (same_operand (Index k) x 0 n h) (record { said = index_takes q k p.0 p.1; operand = tt })
+said a at (op.ThatInt z) q bytes x n b t h =
+    let p = both (is_int32 q) (is_int32_number z) t in
+    subst (IsSaid a (op.ThatInt z) q) (same_operand (Int z) x 0 n h) (record { said = int32_takes q z p.0 p.1; operand = tt })
+said a at (op.Flag value) q bytes x n b t h = absurd cc
+said a at op.Constrained q bytes x n b t h = absurd cc
+
+-- ---- a spelling is found
+
+found_by : (r : Opcode → Bool) (o q : Opcode) (rest : Option Opcode) (b : Bool) → r o ≡ b → r q ≡ true → (o ≡ q → b ≡ true) → (b ≡ false → is_some rest ≡ true) → is_some (cond b (Some o) rest) ≡ true
+found_by r o q rest true e s f more = refl
+found_by r o q rest false e s f more = more refl
+
+found_too : (p r : Opcode → Bool) (os : List Opcode) (q : Opcode) → find p os ≡ Some q → r q ≡ true → is_some (find r os) ≡ true
+found_too p r [] q h s = absurd cc
+found_too p r (o ∷ os) q h s =
     ⊎_elim
-    (λ before. let f = get_or-append os (o ∷ []) 0 j before in let r = rise i j lt before in omega arith)
-    (λ ge. let s : j ≡ length os = omega arith in let f : get_or (os ++ o ∷ []) j 0 ≡ o = ap (λ (k : ℕ). get_or (os ++ o ∷ []) k 0) s ∙ get_or-append_seam os o [] 0 in let b = below i (omega arith) in omega arith)
-    (cases_lt j (length os))
+    (λ x. let t : r o ≡ true = subst (λ (y : Opcode). r y ≡ true) (sym x.1) s in rw t refl)
+    (λ x. found_by r o q (find r os) (r o) refl s (λ e. subst (λ (y : Opcode). r y ≡ true) (sym e) s) (λ e. found_too p r os q x.1 s))
+    (split (p o) o q (find p os) h)
 
-same_ok : (x y : Instr × ℕ) (r : Reading) → r ≡ Ok x → r ≡ Ok y → x ≡ y
-same_ok x y r h k = let e : let q : Reading = Ok x in q ≡ Ok y = sym h ∙ k in cc
+abbrev list_true : List Opcode → Type 0
+list_true os = list_all (λ (o : Opcode). true) os ≡ true
 
-not_both : (x : Instr × ℕ) (rule : Rule) (r : Reading) → r ≡ Ok x → r ≡ Err rule → ⊥
-not_both x rule r h k = let e : let q : Reading = Ok x in q ≡ Err rule = sym h ∙ k in cc
+any_true : (x : Opcode) (p : Opcode → Bool) (os : List Opcode) → list_true os → find p os ≡ Some x → p x ≡ true
+any_true x p os h f = (passing p (λ o. true) os x h f).0
 
--- nothing is read of no bytes
-none_read : (a at : ℕ) (i : Instr) (n : ℕ) → instr_at a at [] ≡ Ok (i, n) → ⊥
+some_of : {X : Type 0} (o : Option X) → is_some o ≡ true → (x : X) × (o ≡ Some x)
+some_of None h = absurd cc
+some_of (Some x) h = (x, refl)
+
+all_true : (os : List Opcode) → list_true os
+all_true [] = refl
+all_true (o ∷ os) = all_true os
+
+pub spelled_again : (a at : ℕ) (o : Opcode) (bytes : List ℕ) (x : Operand) (n : ℕ) → AreBytes bytes → IsRow o → operand_at a at o.operand bytes ≡ Some (x, n) → (is_some (spelling_of o.long x) ≡ true) × IsReadOperand a x
+spelled_again a at o bytes x n b row h =
+    let found = some_of (long_row o) row.long in
+    let q = found.0 in
+    let test = any_true q (λ (q : Opcode). (q.long == o.long) && says_all o.operand q.operand) the_opcodes (all_true the_opcodes) found.1 in
+    let p = both (q.long == o.long) (says_all o.operand q.operand) test in
+    let s = said a at o.operand q.operand bytes x n b p.1 h in
+    (found_too (λ (q : Opcode). (q.long == o.long) && says_all o.operand q.operand) (λ (q : Opcode). (q.long == o.long) && takes q.operand x) the_opcodes q found.1 (rw (p.0, s.said) refl), s.operand)
+
+-- ---- instructions
+
+-- what is known of an instruction that is read behind so many bytes
+pub record IsRead (a taken : ℕ) (i : Instr) (n : ℕ) : Type 0 where
+  pub spelled : is_some (spelling_of i.op i.operand) ≡ true
+  pub operand : IsReadOperand a i.operand
+  pub constrained : IfSome i.constrained IsSmallToken
+  pub prefixes : i.prefixes < 8
+  pub more : taken < n
+
+with_it : (a at : ℕ) (o : Opcode) (bytes : List ℕ) (c : Option Token) (f before taken : ℕ) (r : Option (Operand × ℕ)) (i : Instr) (n : ℕ) → AreBytes bytes → IsRow o → IfSome c IsSmallToken → f < 8 → before < taken → operand_at a at o.operand bytes ≡ r → with_operand c f taken o.long r ≡ Ok (i, n) → IsRead a before i n
+with_it a at o bytes c f before taken None i n b row t s m e h = absurd cc
+with_it a at o bytes c f before taken (Some x) i n b row t s m e h =
+    let again = spelled_again a at o bytes x.0 x.1 b row e in
+    let j : Instr = record { op = o.long; operand = x.0; constrained = c; prefixes = f; under = None } in
+    let first : Instr × ℕ = (j, taken + x.1) in
+    let second : Instr × ℕ = (i, n) in
+    let same : first ≡ second = cc in
+    let all : IsRead a before j (taken + x.1) = record { spelled = again.0; operand = again.1; constrained = t; prefixes = s; more = omega arith } in
+    subst (λ (p : Instr × ℕ). IsRead a before p.0 p.1) same all
+
+weaker : (a before taken : ℕ) (i : Instr) (n : ℕ) → before ≤ taken → IsRead a taken i n → IsRead a before i n
+weaker a before taken i n le r =
+    let m = r.more in record { spelled = r.spelled; operand = r.operand; constrained = r.constrained; prefixes = r.prefixes; more = omega arith }
+
+abbrev Reader : Type 0
+Reader = Option Token → ℕ → ℕ → Reading
+
+-- more codes give what is known
+abbrev IsGood : ℕ → Reader → Type 0
+IsGood a more = (c : Option Token) (f taken : ℕ) (i : Instr) (n : ℕ) → IfSome c IsSmallToken → f < 8 → more c f taken ≡ Ok (i, n) → IsRead a taken i n
+
+typed_it : (a f before taken : ℕ) (more : Reader) (r : Option ℕ) (i : Instr) (n : ℕ) → IsGood a more → f < 8 → before < taken → ((v : ℕ) → r ≡ Some v → v < 2 ^ 32) → with_type more f taken r ≡ Ok (i, n) → IsRead a before i n
+typed_it a f before taken more None i n good s m small h = absurd cc
+typed_it a f before taken more (Some v) i n good s m small h =
+    weaker a before (taken + 4) i n (omega arith) (good (Some (token_of v)) f (taken + 4) i n (small_token v (small v refl)) s h)
+
+small_flag : (o : Opcode) (value : ℕ) → IsRow o → o.operand ≡ op.Flag value → value < 8
+small_flag o value row e =
+    let found = some_of (long_row o) row.long in
+    let q = found.0 in
+    let test = any_true q (λ (q : Opcode). (q.long == o.long) && says_all o.operand q.operand) the_opcodes (all_true the_opcodes) found.1 in
+    let p = both (q.long == o.long) (says_all o.operand q.operand) test in
+    less value 8 (subst (λ (k : OperandKind). says_all k q.operand ≡ true) e p.1)
+
+behind_it : (a at : ℕ) (more : Reader) (o : Opcode) (kind : OperandKind) (bytes : List ℕ) (c : Option Token) (f before taken : ℕ) (i : Instr) (n : ℕ) → AreBytes bytes → IsRow o → o.operand ≡ kind → IsGood a more → IfSome c IsSmallToken → f < 8 → before < taken → behind more a at c f taken o.long bytes kind ≡ Ok (i, n) → IsRead a before i n
+behind_it a at more o (op.Flag value) bytes c f before taken i n b row e good t s m h =
+    weaker a before taken i n (omega arith) (good c (bit_or f value) taken i n t (or_lt 3 f value s (small_flag o value row e)) h)
+behind_it a at more o op.Constrained bytes c f before taken i n b row e good t s m h =
+    typed_it a f before taken more (num_at bytes 0 4) i n good s m (λ v k. let x = small_at bytes 0 4 v b k in omega arith) h
+behind_it a at more o kind bytes c f before taken i n b row e good t s m h =
+    with_it a (at + taken) o bytes c f before taken (operand_at a (at + taken) kind bytes) i n b row t s m (ap (λ (k : OperandKind). operand_at a (at + taken) k bytes) e) h
+
+code_it : (a at : ℕ) (more : Reader) (bytes : List ℕ) (c : Option Token) (f taken : ℕ) (r : Result (Opcode × ℕ) Rule) (i : Instr) (n : ℕ) → AreBytes bytes → opcode_at (drop taken bytes) ≡ r → IsGood a more → IfSome c IsSmallToken → f < 8 → behind_code more a at bytes c f taken r ≡ Ok (i, n) → IsRead a taken i n
+code_it a at more bytes c f taken (Err rule) i n b e good t s h = absurd cc
+code_it a at more bytes c f taken (Ok x) i n b e good t s h =
+    let some = some_at (drop taken bytes) x.0 x.1 e in
+    behind_it a at more x.0 x.0.operand (drop (taken + x.1) bytes) c f taken (taken + x.1) i n (bytes_drop (taken + x.1) bytes b) (row_at (drop taken bytes) x.0 x.1 e) refl good t s (omega arith) h
+
+is_good : (a at : ℕ) (bytes : List ℕ) (k : ℕ) → AreBytes bytes → IsGood a (prefixed a at bytes k)
 unfolding prefixed
-none_read a at i n h = cc
+is_good a at bytes zero b c f taken i n t s h = absurd cc
+is_good a at bytes (suc k) b c f taken i n t s h =
+    code_it a at (prefixed a at bytes k) bytes c f taken (opcode_at (drop taken bytes)) i n b refl (is_good a at bytes k b) t s h
 
--- Code that is read to its end has no instruction that breaks a rule.
-pub never_broken : (a at : ℕ) (bytes : List ℕ) (is is' : List Instr) (os os' : List ℕ) (end end' : ℕ) (rest : List ℕ) (rule : Rule) → Reads (IsInstr a) at bytes is os end [] → Reads (IsInstr a) at bytes is' os' end' rest → rest ≢ [] → instr_at a end' rest ≡ Err rule → ⊥
-never_broken a at bytes [] [] [] [] end end' rest rule h k more err = more (k.1 ∙ sym h.1)
-never_broken a at bytes [] (i ∷ is) [] (o ∷ os) end end' rest rule h k more err =
-    none_read a at i k.1.0 (ap (instr_at a at) h.1 ∙ k.1.1)
-never_broken a at bytes (i ∷ is) [] (o ∷ os) [] end end' rest rule h k more err =
-    not_both (i, h.1.0) rule (instr_at a at bytes) h.1.1 (subst (λ (e : ℕ). instr_at a e bytes ≡ Err rule) k.0 (subst (λ (l : List ℕ). instr_at a end' l ≡ Err rule) k.1 err))
-never_broken a at bytes (i ∷ is) (j ∷ js) (o ∷ os) (p ∷ ps) end end' rest rule h k more err =
-    let e : h.1.0 ≡ k.1.0 = ap (λ (x : Instr × ℕ). x.1) (same_ok (i, h.1.0) (j, k.1.0) (instr_at a at bytes) h.1.1 k.1.1) in
-    let k' = subst (λ n. Reads (IsInstr a) (at + n) (drop n bytes) js ps end' rest) (sym e) k.1.2 in
-    never_broken a (at + h.1.0) (drop h.1.0 bytes) is js os ps end end' rest rule h.1.2 k' more err
-never_broken a at bytes [] is' (o ∷ os) os' end end' rest rule h k more err = absurd h
-never_broken a at bytes (i ∷ is) is' [] os' end end' rest rule h k more err = absurd h
-never_broken a at bytes is [] os (o ∷ os') end end' rest rule h k more err = absurd k
-never_broken a at bytes is (i ∷ is') os [] end end' rest rule h k more err = absurd k
-
--- It is read in one way.
-pub read_once : (a at : ℕ) (bytes : List ℕ) (is is' : List Instr) (os os' : List ℕ) (end end' : ℕ) → Reads (IsInstr a) at bytes is os end [] → Reads (IsInstr a) at bytes is' os' end' [] → (is' ≡ is) × (os' ≡ os)
-read_once a at bytes [] [] [] [] end end' h k = (refl, refl)
-read_once a at bytes [] (i ∷ is) [] (o ∷ os) end end' h k =
-    absurd (none_read a at i k.1.0 (ap (instr_at a at) h.1 ∙ k.1.1))
-read_once a at bytes (i ∷ is) [] (o ∷ os) [] end end' h k =
-    absurd (none_read a at i h.1.0 (ap (instr_at a at) k.1 ∙ h.1.1))
-read_once a at bytes (i ∷ is) (j ∷ js) (o ∷ os) (p ∷ ps) end end' h k =
-    let x = same_ok (i, h.1.0) (j, k.1.0) (instr_at a at bytes) h.1.1 k.1.1 in
-    let e : h.1.0 ≡ k.1.0 = ap (λ (x : Instr × ℕ). x.1) x in
-    let f : i ≡ j = ap (λ (x : Instr × ℕ). x.0) x in
-    let k' = subst (λ n. Reads (IsInstr a) (at + n) (drop n bytes) js ps end' []) (sym e) k.1.2 in
-    let r = read_once a (at + h.1.0) (drop h.1.0 bytes) is js os ps end end' h.1.2 k' in
-    let g : p ≡ o = k.0 ∙ sym h.0 in
-    (rw (r.0, ← f) refl, rw (r.1, g) refl)
-read_once a at bytes [] is' (o ∷ os) os' end end' h k = absurd h
-read_once a at bytes (i ∷ is) is' [] os' end end' h k = absurd h
-read_once a at bytes is [] os (o ∷ os') end end' h k = absurd k
-read_once a at bytes is (i ∷ is') os [] end end' h k = absurd k
-
-same_rule : (rule rule' : Rule) (r : Reading) → r ≡ Err rule → r ≡ Err rule' → rule' ≡ rule
-same_rule rule rule' r h k = let e : let q : Reading = Err rule in q ≡ Err rule' = sym h ∙ k in cc
-
--- The first fault is the only one.
-pub fault_once : (a at : ℕ) (bytes : List ℕ) (is is' : List Instr) (os os' : List ℕ) (end end' : ℕ) (rest rest' : List ℕ) (rule rule' : Rule) → Reads (IsInstr a) at bytes is os end rest → instr_at a end rest ≡ Err rule → Reads (IsInstr a) at bytes is' os' end' rest' → instr_at a end' rest' ≡ Err rule' → (end' ≡ end) × (rule' ≡ rule)
-fault_once a at bytes [] [] [] [] end end' rest rest' rule rule' h e k e' =
-    (k.0 ∙ sym h.0, same_rule rule rule' (instr_at a at bytes) (subst (λ (e : ℕ). instr_at a e bytes ≡ Err rule) h.0 (subst (λ (l : List ℕ). instr_at a end l ≡ Err rule) h.1 e)) (subst (λ (e : ℕ). instr_at a e bytes ≡ Err rule') k.0 (subst (λ (l : List ℕ). instr_at a end' l ≡ Err rule') k.1 e')))
-fault_once a at bytes [] (i ∷ is) [] (o ∷ os) end end' rest rest' rule rule' h e k e' =
-    absurd (not_both (i, k.1.0) rule (instr_at a at bytes) k.1.1 (subst (λ (e : ℕ). instr_at a e bytes ≡ Err rule) h.0 (subst (λ (l : List ℕ). instr_at a end l ≡ Err rule) h.1 e)))
-fault_once a at bytes (i ∷ is) [] (o ∷ os) [] end end' rest rest' rule rule' h e k e' =
-    absurd (not_both (i, h.1.0) rule' (instr_at a at bytes) h.1.1 (subst (λ (e : ℕ). instr_at a e bytes ≡ Err rule') k.0 (subst (λ (l : List ℕ). instr_at a end' l ≡ Err rule') k.1 e')))
-fault_once a at bytes (i ∷ is) (j ∷ js) (o ∷ os) (p ∷ ps) end end' rest rest' rule rule' h e k e' =
-    let s : h.1.0 ≡ k.1.0 = ap (λ (x : Instr × ℕ). x.1) (same_ok (i, h.1.0) (j, k.1.0) (instr_at a at bytes) h.1.1 k.1.1) in
-    let k' = subst (λ n. Reads (IsInstr a) (at + n) (drop n bytes) js ps end' rest') (sym s) k.1.2 in
-    fault_once a (at + h.1.0) (drop h.1.0 bytes) is js os ps end end' rest rest' rule rule' h.1.2 e k' e'
-fault_once a at bytes [] is' (o ∷ os) os' end end' rest rest' rule rule' h e k e' = absurd h
-fault_once a at bytes (i ∷ is) is' [] os' end end' rest rest' rule rule' h e k e' = absurd h
-fault_once a at bytes is [] os (o ∷ os') end end' rest rest' rule rule' h e k e' = absurd k
-fault_once a at bytes is (i ∷ is') os [] end end' rest rest' rule rule' h e k e' = absurd k
+pub is_read : (a at : ℕ) (bytes : List ℕ) (i : Instr) (n : ℕ) → AreBytes bytes → instr_at a at bytes ≡ Ok (i, n) → IsRead a 0 i n
+is_read a at bytes i n b h = is_good a at bytes (length bytes) b None 0 0 i n tt (omega arith) h

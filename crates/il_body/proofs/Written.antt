@@ -1,10 +1,9 @@
 -- A header and the code behind it stand for the body.
-use Rattle.std.proofs.Common.{◌≡◌, ◌⊎◌, ℕ, zero, suc, ◌+◌, ◌-◌, ◌*◌, ◌/◌, ◌%◌, ◌^◌, ◌<◌, ◌≤◌, Bool, true, false, ◌&&◌, not, nat_eq, nat_lt, List, [], ◌∷◌, ◌++◌, length, get_or, if◌then◌else◌, Option, Some, None, refl, sym, ap, ◌∙◌, inl, inr, subst, arith, length-append, zero-add}
+use Rattle.std.proofs.Common.{◌≡◌, ℕ, zero, suc, ◌+◌, ◌*◌, ◌/◌, ◌%◌, ◌^◌, ◌<◌, ◌≤◌, Bool, true, false, not, nat_eq, nat_lt, List, [], ◌∷◌, ◌++◌, length, get_or, if◌then◌else◌, Some, refl, sym, ap, ◌∙◌, inl, inr, subst, arith, length-append, zero-add}
 use Rattle.std.proofs.lemmas.Grind.{common_steps}
-use Rattle.cil_base.specs.declared.token.Token.{Token}
 use Rattle.cil_model.specs.declared.body.Instr.{Instr}
 use Rattle.cil_model.specs.declared.body.Body.{Body}
-use Rattle.cil_model.specs.SmallCode.{BodyOf, IsTinyBody, IsFatBody, Reads, IsFirst, tiny_code, fat_header, locals_number, fits_tiny, is_absent, as_written, spelling, encoded, begins, starts, AllWritable}
+use Rattle.cil_model.specs.SmallCode.{BodyOf, IsTinyBody, Reads, IsFirst, tiny_code, fat_header, locals_number, fits_tiny, as_written, spelling, encoded, begins, starts, AllWritable}
 use Rattle.il_body.proofs.Encoding.{decide, both, absent, equal, less, spelled_small, Reads-encoded, starts-begins}
 
 pub length-starts : (at : ℕ) (is : List Instr) → length (starts at is) ≡ length is + 1

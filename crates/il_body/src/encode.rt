@@ -1,230 +1,185 @@
 // The bytes of a body.
-ghost use Rattle.std.specs.Prelude.{◌≡◌, ◌≢◌, ◌⊎◌, ◌||◌, ℕ, ℤ, List, ◌+◌, ◌*◌, ◌<◌, ◌≤◌, ◌^◌, length, [], ◌∷◌, ◌++◌, get_or, Some, None, OnOk, OnErr, IfOk, Ok, Err, IsTrue, if◌then◌else◌, IfSome};
-ghost use Rattle.std.specs.Int.{w16, w32, to_le_bytes};
-ghost use Rattle.cil_base.specs.Tokens.{token_number};
-ghost use Rattle.cil_model.specs.declared.body.Operand.TheVariants.{Nothing};
-ghost use Rattle.cil_base.specs.declared.refusal.Fault.TheVariants.{Refused};
-ghost use Rattle.cil_model.specs.SmallCode.{number, spelled, spelling, encoded, starts, fits_32, is_plain, is_branch_to, AllWritable, BodyOf, displacement, as_written, fits_tiny, fat_header, locals_number};
+ghost use Rattle.std.specs.Prelude.{◌≡◌, ◌==◌, ◌%◌, get_or, ℕ, List, ◌+◌, ◌*◌, ◌<◌, ◌≤◌, ◌^◌, ◌++◌, ◌∷◌, [], length, take, map, nat_le, OnOk, OnErr, IfOk, IfSome, if◌then◌else◌};
+ghost use Rattle.cil_base.specs.Refusals.{OnRefused};
+ghost use Rattle.cil_model.specs.BodyOf.{StandsFor};
+ghost use Rattle.cil_model.specs.SmallCode.{locals_number};
+ghost use Rattle.il_body.specs.BodyEncoding.{AllValid, IsSmallToken, IsValid, as_encoded, body_bytes, cases_in, clause_of, code_bytes_of, code_from, counted, fat_header, fits_tiny, header_bytes, instr_limit, is_empty, starts, too_many};
 
-use cil_base::{Bytes, Fault, Token, U32s};
-use cil_model::{Body, Instr, Operand};
+use crate::clauses::push_sections;
+use crate::instr::push_instr;
+use crate::numbers::{push_four, push_two};
+use crate::small_code::number_of_locals;
+use crate::spelling::size_of;
+use cil_base::{Bytes, Fault, Place, Refusal, Rule, U32s};
+use cil_model::{Body, Instr, Operand, Regions};
 use std::alloc::{AllocError, Global};
 
-fn push_number(code: &mut Bytes, z: i64) -> Result<(), AllocError>
-    requires { IsTrue (fits_32 z) }
-    ensures { OnOk result (code.new ≡ code.old ++ number z) }
-{
-    if -1 <= z && z <= 8 {
-        return code.push((z + 0x16) as u8);
-    }
-    if -128 <= z && z <= 127 {
-        code.push(0x1F)?;
-        return code.push((z as i8).cast_unsigned());
-    }
-    code.push(0x20)?;
-    push_four(code, (z as i32).cast_unsigned())
-}
+/// How many instructions a body may have, with each case of a switch as one more.
+const LIMIT: usize = 0x40_0000;
 
-/// The four bytes of a number, the lowest first.
-fn push_four(code: &mut Bytes, v: u32) -> Result<(), AllocError>
-    ensures { OnOk result (code.new ≡ code.old ++ to_le_bytes w32 v) }
-{
-    let [a, b, c, d] = v.to_le_bytes();
-    code.push(a)?;
-    code.push(b)?;
-    code.push(c)?;
-    code.push(d)
-}
-
-fn push_token(code: &mut Bytes, token: Token) -> Result<(), AllocError>
-    requires { token.row < 2 ^ 24 }
-    ensures { OnOk result (code.new ≡ code.old ++ 0x28 ∷ to_le_bytes w32 (token_number token)) }
-{
-    code.push(0x28)?;
-    push_four(code, token.to_u32())
-}
-
-fn push_branch(code: &mut Bytes, place: u32, end: u32) -> Result<(), AllocError>
-    ensures { OnOk result (code.new ≡ code.old ++ 0x3A ∷ to_le_bytes w32 (displacement place end)) }
-{
-    code.push(0x3A)?;
-    push_four(code, place.wrapping_sub(end))
-}
-
-fn push_bare(code: &mut Bytes, op: u16) -> Result<(), AllocError>
-    requires { (op < 256) ⊎ ((0xFE00 ≤ op) × (op < 0xFF00)) }
-    ensures { OnOk result (code.new ≡ code.old ++ spelled [] 0 op Nothing) }
-{
-    if op < 0x100 {
-        return code.push(op as u8);
-    }
-    code.push(0xFE)?;
-    code.push((op - 0xFE00) as u8)
-}
-
-/// Writes an instruction at the end of the code. A branch is told where the instructions begin.
-fn push_instr(code: &mut Bytes, i: &Instr, places: &[u32], at: u32) -> Result<(), AllocError>
-    requires writable { (assembly : ℕ) × IsTrue (is_plain assembly i.now || is_branch_to (length places.now) i.now) }
-    requires room { at < 2 ^ 31 }
-    ensures { OnOk result (code.new ≡ code.old ++ spelling places.now at i.now) }
+/// How many instructions an instruction counts as.
+fn weight(i: &Instr) -> usize
+    ensures { result ≡ 1 + cases_in i.now.operand }
 {
     match &i.operand {
-        Operand::Nothing => push_bare(code, i.op),
-        Operand::Int(z) => push_number(code, *z),
-        Operand::Index(k) => code.push((*k + 2) as u8),
-        Operand::Target(k) => push_branch(code, places[*k as usize], at + 5),
-        Operand::Targets(_) => Ok(()),
-        Operand::Tok { token, .. } => push_token(code, *token),
+        Operand::Targets(ks) => 1 + ks.as_slice().len(),
+        _ => 1,
     }
 }
 
-/// How many bytes the instruction takes.
-fn size_of(i: &Instr) -> u32
-    ensures size { result ≡ length (spelling [] 0 i.now) }
-    ensures small { result ≤ 5 }
+fn is_within_limit(instrs: &[Instr]) -> bool
+    ensures { result ≡ nat_le (counted instrs.now) instr_limit }
 {
-    match &i.operand {
-        Operand::Nothing => { if i.op < 0x100 { 1 } else { 2 } }
-        Operand::Int(z) => {
-            if -1 <= *z && *z <= 8 {
-                1
-            } else if -128 <= *z && *z <= 127 {
-                2
-            } else {
-                5
-            }
+    let mut left = LIMIT;
+    for i in instrs {
+        let weight = weight(i);
+        if left < weight {
+            return false;
         }
-        Operand::Index(_) => 1,
-        Operand::Target(_) => 5,
-        Operand::Targets(_) => 0,
-        Operand::Tok { .. } => 5,
+        left -= weight;
     }
+    true
+}
+
+/// The refusal of a body with more. It names no method.
+fn refused_size() -> Refusal
+    ensures { result ≡ too_many }
+{
+    let place = Place {
+        assembly: 0,
+        table: 0,
+        row: 0,
+    };
+    place.refusal(Rule::L4, LIMIT as u32 + 1)
 }
 
 /// Where the instructions begin, and where the last one ends.
 fn starts_of(alloc: Global, instrs: &[Instr]) -> Result<U32s, AllocError>
-    requires { length instrs.now < 2 ^ 24 }
+    requires { counted instrs.now ≤ 2 ^ 22 }
     ensures { IfOk result (λ places. places ≡ starts 0 instrs.now) }
 {
     let mut places = U32s::new(alloc);
     let mut at = 0u32;
     for i in instrs {
         places.push(at)?;
-        at += size_of(i);
+        at += size_of(i) as u32;
     }
     places.push(at)?;
     Ok(places)
 }
 
-/// The code of the instructions.
+/// The code of the instructions, which begin at these places.
 fn code_of(alloc: Global, instrs: &[Instr], places: &[u32]) -> Result<Bytes, AllocError>
-    requires few { length instrs.now < 2 ^ 24 }
-    requires writable { (a : ℕ) × AllWritable a (length places.now) instrs.now }
-    ensures { IfOk result (λ code. code ≡ encoded places.now 0 instrs.now) }
+    requires few { counted instrs.now ≤ 2 ^ 22 }
+    requires valid { (a : ℕ) × (count : ℕ) × (count ≤ length places.now) × AllValid a count instrs.now }
+    ensures { IfOk result (λ code. code ≡ code_from places.now 0 instrs.now) }
 {
     let mut code = Bytes::new(alloc);
     for i in instrs {
         let at = code.len() as u32;
-        push_instr(&mut code, i, places, at)?;
+        push_instr(&mut code, places, at, i)?;
     }
     Ok(code)
 }
 
 /// Whether a tiny header says all of the body.
 fn is_tiny(body: &Body, size: usize) -> bool
-    ensures { result ≡ fits_tiny body.now size }
+    ensures value { result ≡ fits_tiny body.now size }
+    ensures stack { body.now.max_stack < 2 ^ 16 }
 {
-    size < 64 && body.max_stack == 8 && !body.init && body.locals.is_none()
+    body.max_stack == 8
+        && size < 64
+        && !body.init
+        && body.locals.is_none()
+        && body.regions.is_empty()
 }
 
-fn push_two(bytes: &mut Bytes, v: u16) -> Result<(), AllocError>
-    ensures { OnOk result (bytes.new ≡ bytes.old ++ to_le_bytes w16 v) }
+fn flags_of(init: bool, regions: &Regions) -> u16
+    ensures { result ≡ 0x3003 + (if init then 0x10 else 0) + (if is_empty regions.now then 0 else 8) }
 {
-    let [a, b] = v.to_le_bytes();
-    bytes.push(a)?;
-    bytes.push(b)
-}
-
-fn number_of_locals(locals: &Option<Token>) -> u32
-    requires { IfSome locals.now (λ token. token.row < 2 ^ 24) }
-    ensures { result ≡ locals_number locals.now }
-{
-    match locals {
-        None => 0,
-        Some(token) => token.to_u32(),
-    }
+    let locals = if init { 0x10 } else { 0 };
+    let sections = if regions.is_empty() { 0 } else { 8 };
+    0x3003 + locals + sections
 }
 
 /// The twelve bytes in front of a body that a tiny header doesn't fit.
-fn fat_header_of(alloc: Global, body: &Body, size: u32) -> Result<Bytes, AllocError>
-    requires { IfSome body.now.locals (λ token. token.row < 2 ^ 24) }
-    ensures { IfOk result (λ bytes. bytes ≡ fat_header body.now.init body.now.max_stack size (locals_number body.now.locals)) }
+fn push_fat_header(bytes: &mut Bytes, body: &Body, size: u32) -> Result<(), AllocError>
+    requires { IfSome body.now.locals IsSmallToken }
+    ensures { OnOk result (bytes.new ≡ bytes.old ++ fat_header body.now size) }
 {
-    let mut bytes = Bytes::new(alloc);
-    bytes.push(if body.init { 0x13 } else { 0x03 })?;
-    bytes.push(0x30)?;
-    push_two(&mut bytes, body.max_stack)?;
-    push_four(&mut bytes, size)?;
-    push_four(&mut bytes, number_of_locals(&body.locals))?;
-    Ok(bytes)
+    push_two(bytes, flags_of(body.init, &body.regions))?;
+    push_two(bytes, body.max_stack)?;
+    push_four(bytes, size)?;
+    push_four(bytes, number_of_locals(&body.locals))
 }
 
 fn header_of(alloc: Global, body: &Body, size: usize) -> Result<Bytes, AllocError>
     requires small { size < 2 ^ 32 }
-    requires locals { IfSome body.now.locals (λ token. token.row < 2 ^ 24) }
-    ensures { IfOk result (λ bytes. bytes ≡ (if fits_tiny body.now size then (4 * size + 2) ∷ [] else fat_header body.now.init body.now.max_stack size (locals_number body.now.locals))) }
+    requires locals { IfSome body.now.locals IsSmallToken }
+    ensures value { IfOk result (λ bytes. bytes ≡ header_bytes body.now size) }
+    ensures stack { body.now.max_stack < 2 ^ 16 }
 {
+    let mut bytes = Bytes::new(alloc);
     if is_tiny(body, size) {
-        let mut bytes = Bytes::new(alloc);
         bytes.push((4 * size + 2) as u8)?;
-        return Ok(bytes);
+    } else {
+        push_fat_header(&mut bytes, body, size as u32)?;
     }
-    fat_header_of(alloc, body, size as u32)
-}
-
-/// The bytes of a body without regions.
-pub fn encode_body(alloc: Global, body: &Body) -> Result<Bytes, Fault>
-    requires few { length body.now.instrs < 2 ^ 24 }
-    requires writable { (a : ℕ) × AllWritable a (length body.now.instrs + 1) body.now.instrs }
-    requires locals { IfSome body.now.locals (λ token. token.row < 2 ^ 24) }
-    requires regions { body.now.regions ≡ [] }
-    ensures body { (a : ℕ) → AllWritable a (length body.now.instrs + 1) body.now.instrs → IfOk result (λ bytes. BodyOf a bytes (as_written body.now)) }
-    ensures accepted { (r : _) → result ≢ Err (Refused r) }
-{
-    let places = starts_of(alloc, body.instrs.as_slice())?;
-    let code = code_of(alloc, body.instrs.as_slice(), places.as_slice())?;
-    let mut bytes = header_of(alloc, body, code.len())?;
-    bytes.append(code)?;
     Ok(bytes)
 }
 
-#[cfg(test)]
-mod tests {
-    use super::*;
-    use crate::small::decode_small;
-    use cil_base::Place;
-    use std::test::Fail;
+/// The bytes of a body (ECMA-335, II.25.4): each instruction in its shortest spelling, but branches
+/// and `leave` in the long one; a tiny header where it says all of the body; regions as fat clauses,
+/// in as many sections as their sizes of three bytes ask for. `decode_body` reads the body back,
+/// but for the offsets of its instructions. L4, with no place, where the body has over 2^22
+/// instructions, each case of a switch counted as one more.
+pub fn encode_body(alloc: Global, body: &Body) -> Result<Bytes, Fault>
+    requires { (a : ℕ) × IsValid a body.now }
+    ensures body { (a : ℕ) → IsValid a body.now → IfOk result (λ bytes. StandsFor a bytes (as_encoded body.now) (length bytes)) }
+    ensures bytes { IfOk result (λ bytes. bytes ≡ body_bytes body.now) }
+    ensures tiny { IfOk result (λ bytes. (get_or bytes 0 0 % 4 == 2) ≡ fits_tiny body.now (length (code_bytes_of body.now.instrs))) }
+    ensures accepted { OnOk result (counted body.now.instrs ≤ instr_limit) }
+    ensures refused { OnRefused result (λ r. (instr_limit < counted body.now.instrs) × (r ≡ too_many)) }
+{
+    let instrs = body.instrs.as_slice();
+    if !is_within_limit(instrs) {
+        return Err(Fault::Refused(refused_size()));
+    }
+    let places = starts_of(alloc, instrs)?;
+    let code = code_of(alloc, instrs, places.as_slice())?;
+    let mut bytes = header_of(alloc, body, code.len())?;
+    bytes.append(code)?;
+    push_sections(&mut bytes, places.as_slice(), body.regions.as_slice())?;
+    Ok(bytes)
+}
 
-    #[test]
-    fn what_is_read_is_written(rt: HostRuntime) -> Result<(), Fail> {
-        let alloc = rt.alloc();
-        let place = Place {
-            assembly: 0,
-            table: 0,
-            row: 0,
-        };
-        // Each instruction but a call's long spelling, in its shortest one.
-        let bytes = [
-            0x5A, 0x00, 0x02, 0x05, 0x15, 0x1E, 0x1F, 0x80, 0x20, 0x00, 0x01, 0x00, 0x00, 0x25,
-            0x26, 0x58, 0x59, 0x5A, 0xFE, 0x01, 0xFE, 0x04, 0x2A,
-        ];
-        match decode_small(alloc, &bytes, place) {
-            Ok(body) => match encode_body(alloc, &body) {
-                Ok(written) => assert!(rt; written.as_slice() == bytes.as_slice()),
-                Err(_) => assert!(rt; false, "not written"),
-            },
-            Err(_) => assert!(rt; false, "not read"),
-        }
-        Ok(())
+/// Byte after byte, so that want of memory leaves the first ones.
+fn push_bytes(out: &mut Bytes, bytes: &[u8]) -> Result<(), AllocError>
+    ensures ok { OnOk result (out.new ≡ out.old ++ bytes.now) }
+    ensures err { OnErr result ((k : ℕ) × (out.new ≡ out.old ++ take k bytes.now)) }
+{
+    for b in bytes {
+        out.push(*b)?;
+    }
+    Ok(())
+}
+
+/// Appends the bytes that `encode_body` gives. L4 leaves `out` as it was; after want of memory it
+/// has the first of them more, or none.
+pub fn encode_into(alloc: Global, body: &Body, out: &mut Bytes) -> Result<(), Fault>
+    requires { (a : ℕ) × IsValid a body.now }
+    ensures body { (a : ℕ) → IsValid a body.now → OnOk result ((bytes : List ℕ) × (out.new ≡ out.old ++ bytes) × StandsFor a bytes (as_encoded body.now) (length bytes)) }
+    ensures appended { OnOk result (out.new ≡ out.old ++ body_bytes body.now) }
+    ensures accepted { OnOk result (counted body.now.instrs ≤ instr_limit) }
+    ensures refused { OnRefused result (λ r. (instr_limit < counted body.now.instrs) × (r ≡ too_many) × (out.new ≡ out.old)) }
+    ensures partly { OnErr result ((k : ℕ) × (out.new ≡ out.old ++ take k (body_bytes body.now))) }
+{
+    let bytes = match encode_body(alloc, body) {
+        Err(fault) => return Err(fault),
+        Ok(bytes) => bytes,
+    };
+    match push_bytes(out, bytes.as_slice()) {
+        Err(e) => Err(Fault::Memory(e)),
+        Ok(()) => Ok(()),
     }
 }

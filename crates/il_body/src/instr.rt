@@ -1,131 +1,146 @@
-// One instruction with its prefixes.
-ghost use Rattle.std.specs.Prelude.{◌≡◌, ◌+◌, ◌<◌, ◌≤◌, ◌^◌, length, drop, Option, IfOk, IfSome};
-ghost use Rattle.cil_model.specs.BodyCode.{code_at, instr_at, opcode_at, operand_at, with_operand};
-ghost use Rattle.il_body.specs.Answers.{Gives};
-ghost use Rattle.il_body.specs.declared.instr.ReadFault.TheVariants.{Memory};
+// The bytes of one instruction.
+ghost use Rattle.std.specs.Prelude.{◌≡◌, ◌<◌, ◌≤◌, ◌+◌, ◌*◌, ◌^◌, ◌++◌, ℕ, length, get_or, [], OnOk, IfSome, IsTrue};
+ghost use Rattle.std.specs.Int.{w32, to_le_bytes};
+ghost use Rattle.cil_base.specs.Tokens.{token_number};
+ghost use Rattle.cil_model.specs.SmallCode.{displacement};
+ghost use Rattle.il_body.specs.BodyEncoding.{AllBelow, IsSmallToken, IsValidInstr, IsValidOperand, takes, takes_int, takes_index, code_bytes, flag_bytes, constrained_bytes, prefix_bytes, front_bytes, operand_bytes, case_bytes, int_bytes, index_bytes, instr_bytes, cases_in};
 
-use crate::numbers::bytes_from;
-use crate::operand::read_operand;
-use cil_base::{Rule, Token, read_u32_at};
-use cil_model::{Instr, Opcode, OperandKind, find_opcode};
-use std::alloc::{AllocError, Global};
+use crate::numbers::{push_eight, push_four, push_two};
+use crate::spelling::{front_size, has_flag, spelling};
+use cil_base::{Bytes, Token};
+use cil_model::{Instr, Opcode, Operand, OperandKind};
+use std::alloc::AllocError;
 
-/// Why there is no instruction.
-#[derive(Debug, Drop)]
-pub(crate) enum ReadFault {
-    Broken(Rule),
-    Memory(AllocError),
+fn push_code(out: &mut Bytes, code: u16) -> Result<(), AllocError>
+    ensures { OnOk result (out.new ≡ out.old ++ code_bytes code) }
+{
+    if code < 0x100 {
+        return out.push(code as u8);
+    }
+    out.push(0xFE)?;
+    out.push((code % 0x100) as u8)
 }
 
-impl From<AllocError> for ReadFault {
-    ghost from_gives = { λ e f. f ≡ Memory e };
+fn push_flag(out: &mut Bytes, value: u8, second: u8, flags: u8) -> Result<(), AllocError>
+    requires { 0 < value }
+    ensures { OnOk result (out.new ≡ out.old ++ flag_bytes value second flags) }
+{
+    if has_flag(value, flags) {
+        out.push(0xFE)?;
+        out.push(second)?;
+    }
+    Ok(())
+}
 
-    fn from(e: AllocError) -> Self {
-        ReadFault::Memory(e)
+fn push_type(out: &mut Bytes, constrained: &Option<Token>) -> Result<(), AllocError>
+    requires { IfSome constrained.now IsSmallToken }
+    ensures { OnOk result (out.new ≡ out.old ++ constrained_bytes constrained.now) }
+{
+    if let Some(token) = constrained {
+        out.push(0xFE)?;
+        out.push(0x16)?;
+        push_four(out, token.to_u32())?;
+    }
+    Ok(())
+}
+
+/// The prefixes and the code.
+fn push_front(out: &mut Bytes, i: &Instr, o: Opcode) -> Result<(), AllocError>
+    requires { IfSome i.now.constrained IsSmallToken }
+    ensures { OnOk result (out.new ≡ out.old ++ front_bytes i.now o) }
+{
+    push_type(out, &i.constrained)?;
+    push_flag(out, 1, 0x13, i.prefixes)?;
+    push_flag(out, 2, 0x14, i.prefixes)?;
+    push_flag(out, 4, 0x1E, i.prefixes)?;
+    push_code(out, o.code)
+}
+
+fn push_int(out: &mut Bytes, kind: OperandKind, z: i64) -> Result<(), AllocError>
+    requires { IsTrue (takes_int kind z) }
+    ensures { OnOk result (out.new ≡ out.old ++ int_bytes kind z) }
+{
+    match kind {
+        OperandKind::Int8 => out.push((z as i8).cast_unsigned()),
+        OperandKind::Int32 => push_four(out, (z as i32).cast_unsigned()),
+        OperandKind::Int64 => push_eight(out, z.cast_unsigned()),
+        _ => Ok(()),
     }
 }
 
-/// The code at the front, and how many bytes it takes; None where it is cut.
-fn read_code(bytes: &[u8]) -> Option<(u16, usize)>
-    ensures value { result ≡ code_at bytes.now }
-    ensures within { IfSome result (λ x. (0 < x.1) × (x.1 ≤ length bytes.now)) }
+fn push_index(out: &mut Bytes, kind: OperandKind, k: u32) -> Result<(), AllocError>
+    requires { IsTrue (takes_index kind k) }
+    ensures { OnOk result (out.new ≡ out.old ++ index_bytes kind k) }
 {
-    match bytes {
-        [] => None,
-        [0xFE] => None,
-        [0xFE, b, ..] => Some((0xFE00 + *b as u16, 2)),
-        [b, ..] => Some((*b as u16, 1)),
+    match kind {
+        OperandKind::Index8 => out.push(k as u8),
+        OperandKind::Index16 => push_two(out, k as u16),
+        _ => Ok(()),
     }
 }
 
-/// The instruction whose code is at the front, and how many bytes the code takes.
-fn read_opcode(bytes: &[u8]) -> Result<(Opcode, usize), Rule>
-    ensures value { result ≡ opcode_at bytes.now }
-    ensures within { IfOk result (λ x. (0 < x.1) × (x.1 ≤ length bytes.now)) }
+/// How far it is to a place from the end of an instruction.
+fn push_distance(out: &mut Bytes, place: u32, end: u32) -> Result<(), AllocError>
+    ensures { OnOk result (out.new ≡ out.old ++ to_le_bytes w32 (displacement place end)) }
 {
-    let Some((code, n)) = read_code(bytes) else {
-        return Err(Rule::I2);
-    };
-    match find_opcode(code) {
-        None => Err(Rule::I1),
-        Some(opcode) => Ok((opcode, n)),
+    push_four(out, place.wrapping_sub(end))
+}
+
+fn push_cases(out: &mut Bytes, places: &[u32], end: u32, ks: &[u32]) -> Result<(), AllocError>
+    requires { (count : ℕ) × (count ≤ length places.now) × AllBelow count ks.now }
+    ensures { OnOk result (out.new ≡ out.old ++ case_bytes places.now end ks.now) }
+{
+    for k in ks {
+        push_distance(out, places[*k as usize], end)?;
+    }
+    Ok(())
+}
+
+/// The operand of an instruction, which begins at an offset in the code.
+fn push_operand(
+    out: &mut Bytes,
+    places: &[u32],
+    at: u32,
+    kind: OperandKind,
+    operand: &Operand,
+) -> Result<(), AllocError>
+    requires room { at + 4 + 4 * cases_in operand.now < 2 ^ 32 }
+    requires says { IsTrue (takes kind operand.now) }
+    requires valid { (a : ℕ) × (count : ℕ) × (count ≤ length places.now) × IsValidOperand a count operand.now }
+    ensures { OnOk result (out.new ≡ out.old ++ operand_bytes places.now at kind operand.now) }
+{
+    match operand {
+        Operand::Nothing => Ok(()),
+        Operand::Int(z) => push_int(out, kind, *z),
+        Operand::Index(k) => push_index(out, kind, *k),
+        Operand::Target(k) => push_distance(out, places[*k as usize], at + 4),
+        Operand::Targets(ks) => {
+            let count = ks.len() as u32;
+            push_four(out, count)?;
+            push_cases(out, places, at + 4 + 4 * count, ks.as_slice())
+        }
+        Operand::Tok { token, .. } => push_four(out, token.to_u32()),
     }
 }
 
-/// The prefixes that were read, and how many bytes are behind.
-#[derive(Clone, Copy)]
-struct Prefixes {
-    constrained: Option<Token>,
-    flags: u8,
-    taken: usize,
-}
-
-/// The instruction of a code, with its operand at the front of the rest.
-fn finish(
-    alloc: Global,
-    assembly: u32,
-    at: u64,
-    opcode: Opcode,
-    prefixes: Prefixes,
-    rest: &[u8],
-) -> Result<(Instr, usize), ReadFault>
-    requires { at + prefixes.taken + length rest.now < 2 ^ 32 }
-    ensures value { Gives result (with_operand prefixes.constrained prefixes.flags prefixes.taken opcode.long (operand_at assembly (at + prefixes.taken) opcode.operand rest.now)) }
-    ensures within { IfOk result (λ x. (prefixes.taken ≤ x.1) × (x.1 ≤ prefixes.taken + length rest.now)) }
+/// The instruction, which begins at an offset in the code. The instructions begin at these places.
+#[tactic(auto, unfolding(crate::specs::BodyEncoding::instr_bytes))]
+pub(crate) fn push_instr(
+    out: &mut Bytes,
+    places: &[u32],
+    at: u32,
+    i: &Instr,
+) -> Result<(), AllocError>
+    requires room { at + 24 * (1 + cases_in i.now.operand) < 2 ^ 32 }
+    requires valid { (a : ℕ) × (count : ℕ) × (count ≤ length places.now) × IsValidInstr a count i.now }
+    ensures { OnOk result (out.new ≡ out.old ++ instr_bytes places.now at i.now) }
 {
-    let start = at + prefixes.taken as u64;
-    let Some((operand, n)) = read_operand(alloc, assembly, start, opcode.operand, rest)? else {
-        return Err(ReadFault::Broken(Rule::I2));
-    };
-    let i = Instr {
-        op: opcode.long,
-        operand,
-        constrained: prefixes.constrained,
-        prefixes: prefixes.flags,
-        under: None,
-    };
-    Ok((i, prefixes.taken + n))
-}
-
-/// The first instruction of the bytes with its prefixes, and how many bytes it takes. The bytes
-/// begin at an offset in the code; a target is given as an offset.
-pub(crate) fn read_instr(
-    alloc: Global,
-    assembly: u32,
-    at: u64,
-    bytes: &[u8],
-) -> Result<(Instr, usize), ReadFault>
-    requires { at + length bytes.now < 2 ^ 32 }
-    ensures value { Gives result (instr_at assembly at bytes.now) }
-    ensures within { IfOk result (λ x. (0 < x.1) × (x.1 ≤ length bytes.now)) }
-{
-    let mut constrained = None;
-    let mut flags = 0u8;
-    let mut taken = 0usize;
-    'codes: loop {
-        let (opcode, n) = match read_opcode(bytes_from(bytes, taken)) {
-            Err(rule) => return Err(ReadFault::Broken(rule)),
-            Ok(read) => read,
-        };
-        taken += n;
-        let rest = bytes_from(bytes, taken);
-        match opcode.operand {
-            OperandKind::Flag(bit) => flags |= bit,
-            OperandKind::Constrained => {
-                let Some(v) = read_u32_at(rest, 0) else {
-                    return Err(ReadFault::Broken(Rule::I2));
-                };
-                constrained = Some(Token::from_u32(v));
-                taken += 4;
-            }
-            _ => {
-                let prefixes = Prefixes {
-                    constrained,
-                    flags,
-                    taken,
-                };
-                return finish(alloc, assembly, at, opcode, prefixes, rest);
-            }
+    match spelling(i.op, &i.operand) {
+        None => Ok(()),
+        Some(o) => {
+            let operand_at = at + front_size(i, o) as u32;
+            push_front(out, i, o)?;
+            push_operand(out, places, operand_at, o.operand, &i.operand)
         }
     }
 }

@@ -1,43 +1,38 @@
-// Numbers at places that are known to be there.
-#![tactic(auto, unfolding(cil_base::specs::Numbers::num))]
+// Numbers at the end of a list of bytes, the lowest byte first.
+ghost use Rattle.std.specs.Prelude.{◌≡◌, ◌++◌, OnOk};
+ghost use Rattle.std.specs.Int.{w16, w32, w64, to_le_bytes};
 
-ghost use Rattle.std.specs.Prelude.{◌≡◌, ◌+◌, ◌≤◌, length, drop};
-ghost use Rattle.cil_base.specs.Numbers.{num};
+use cil_base::Bytes;
+use std::alloc::AllocError;
 
-use byteorder::{ByteOrder, LittleEndian};
-
-/// The bytes from a place on.
-pub(crate) fn bytes_from(bytes: &[u8], from: usize) -> &[u8]
-    requires { from ≤ length bytes.now }
-    ensures { result.now ≡ drop from bytes.now }
+pub(crate) fn push_two(bytes: &mut Bytes, v: u16) -> Result<(), AllocError>
+    ensures { OnOk result (bytes.new ≡ bytes.old ++ to_le_bytes w16 v) }
 {
-    &bytes[from..]
+    let [a, b] = v.to_le_bytes();
+    bytes.push(a)?;
+    bytes.push(b)
 }
 
-pub(crate) fn one_in(bytes: &[u8], at: usize) -> u8
-    requires { at + 1 ≤ length bytes.now }
-    ensures { result ≡ num bytes.now at 1 }
+pub(crate) fn push_four(bytes: &mut Bytes, v: u32) -> Result<(), AllocError>
+    ensures { OnOk result (bytes.new ≡ bytes.old ++ to_le_bytes w32 v) }
 {
-    bytes[at]
+    let [a, b, c, d] = v.to_le_bytes();
+    bytes.push(a)?;
+    bytes.push(b)?;
+    bytes.push(c)?;
+    bytes.push(d)
 }
 
-pub(crate) fn two_in(bytes: &[u8], at: usize) -> u16
-    requires { at + 2 ≤ length bytes.now }
-    ensures { result ≡ num bytes.now at 2 }
+pub(crate) fn push_eight(bytes: &mut Bytes, v: u64) -> Result<(), AllocError>
+    ensures { OnOk result (bytes.new ≡ bytes.old ++ to_le_bytes w64 v) }
 {
-    LittleEndian::read_u16(&bytes[at..])
-}
-
-pub(crate) fn four_in(bytes: &[u8], at: usize) -> u32
-    requires { at + 4 ≤ length bytes.now }
-    ensures { result ≡ num bytes.now at 4 }
-{
-    LittleEndian::read_u32(&bytes[at..])
-}
-
-pub(crate) fn eight_in(bytes: &[u8]) -> u64
-    requires { 8 ≤ length bytes.now }
-    ensures { result ≡ num bytes.now 0 8 }
-{
-    LittleEndian::read_u64(bytes)
+    let [a, b, c, d, e, f, g, h] = v.to_le_bytes();
+    bytes.push(a)?;
+    bytes.push(b)?;
+    bytes.push(c)?;
+    bytes.push(d)?;
+    bytes.push(e)?;
+    bytes.push(f)?;
+    bytes.push(g)?;
+    bytes.push(h)
 }

@@ -11,7 +11,7 @@ returns-clause-done c =
       before = c.in-Ok.before;
       after = as_written c.in-Ok-splice_one.after;
       reads = c.in-Ok.ensures.body;
-      writes = c.in_ok-encode_body.ensures.body 0 c.in-Ok-splice_one.ensures.writable;
+      writes = c.in_ok-encode_small.ensures.body 0 c.in-Ok-splice_one.ensures.writable;
       same = record { same = s.same; none_left = s.none_left };
       count = c.clauses_of.ensures;
     }

@@ -6,10 +6,11 @@ use Rattle.cli_sigs.specs.declared.types.SigTy.TheVariants as ty
 use Rattle.cli_sigs.specs.declared.types.SigTy.TheVariants.{rolls-ByRef, rolls-Pinned}
 use Rattle.cli_sigs.specs.declared.types.SigTy.TheOpen.{SigTy-F}
 use Rattle.cli_sigs.specs.declared.types.MethodSig.{out-MethodSig}
+use Rattle.cli_sigs.specs.Elements.{kept}
 use Rattle.cli_sigs.specs.Numbers.{IsPacked}
 use Rattle.cli_sigs.specs.Grammar.{IsType, IsMethod, ptr, by_ref, named, var, mvar, func, sz_array, pinned, named_byte}
 use Rattle.cli_sigs.specs.Valid.{IsValidType}
-use Rattle.cli_sigs.proofs.PrintLaws.{on_ok, each_adds, none_adds, some_adds, method_adds, form_adds, prim_adds, array_adds, inst_adds, modified_adds, in_form, deep, opened, closed}
+use Rattle.cli_sigs.proofs.PrintLaws.{on_ok, each_adds, none_adds, some_adds, method_adds, behind_adds, form_adds, prim_adds, array_adds, inst_adds, modified_adds, in_form, deep, opened, closed}
 use Rattle.cli_sigs.proofs.printing.+printer.Goals as goal
 
 pub push_each_type-loop-ty-preserved : goal.push_each_type-loop-ty-preserved
@@ -42,57 +43,61 @@ pub push_form-returns-in-Prim : goal.push_form-returns-in-Prim
 push_form-returns-in-Prim t c =
     on_ok _ _ c.push.result (prim_adds (IsType c.args.depth) c.args.slot (IsValidType c.args.depth) c.in-Prim.b c.args.ty.now c.args.out.now c.push.new.self c.in-Prim.is c.requires) c.push.ensures.ok
 
-pub push_form-returns-in_ok-push-in-Ptr : goal.push_form-returns-in_ok-push-in-Ptr
-push_form-returns-in_ok-push-in-Ptr t c =
-    form_adds (IsType c.args.depth) c.args.slot (IsType c.args.depth Pointed) 0x0F c.in-Ptr.inner c.args.ty.now (ty.Ptr c.in-Ptr.inner) c.args.out.now c.push-in-Ptr.new.self c.push_type.new.out c.push_type.result (λ text g. ptr g) c.in-Ptr.is c.in_ok-push-in-Ptr.ensures.ok (rw c.get.ensures at c.push_type.ensures)
+pub push_form-returns-in-Ptr : goal.push_form-returns-in-Ptr
+push_form-returns-in-Ptr t c =
+    form_adds (IsType c.args.depth) c.args.slot (IsType c.args.depth Pointed) 0x0F c.in-Ptr.inner c.args.ty.now (ty.Ptr c.in-Ptr.inner) c.args.out.now c.push_behind.new.out c.push_behind.result (λ text g. ptr g) c.in-Ptr.is (rw c.get.ensures at c.push_behind.ensures)
 
-pub push_form-returns-in_ok-push-in-ByRef : goal.push_form-returns-in_ok-push-in-ByRef
-push_form-returns-in_ok-push-in-ByRef t c =
-    form_adds (IsType c.args.depth) c.args.slot (IsType c.args.depth Plain) 0x10 c.in-ByRef.inner c.args.ty.now (ty.ByRef c.in-ByRef.inner) c.args.out.now c.push-in-ByRef.new.self c.push_type-in-ByRef.new.out c.push_type-in-ByRef.result (λ text g. by_ref (in_form (IsValidType c.args.depth) c.args.slot c.args.ty.now (ty.ByRef c.in-ByRef.inner) (SigTy-F.ByRef c.in-ByRef.inner) c.in-ByRef.is (rolls-ByRef c.in-ByRef.inner) c.requires).0 g) c.in-ByRef.is c.in_ok-push-in-ByRef.ensures.ok (rw c.get-in-ByRef.ensures at c.push_type-in-ByRef.ensures)
+pub push_form-returns-in-ByRef : goal.push_form-returns-in-ByRef
+push_form-returns-in-ByRef t c =
+    form_adds (IsType c.args.depth) c.args.slot (IsType c.args.depth Plain) 0x10 c.in-ByRef.inner c.args.ty.now (ty.ByRef c.in-ByRef.inner) c.args.out.now c.push_behind-in-ByRef.new.out c.push_behind-in-ByRef.result (λ text g. by_ref (in_form (IsValidType c.args.depth) c.args.slot c.args.ty.now (ty.ByRef c.in-ByRef.inner) (SigTy-F.ByRef c.in-ByRef.inner) c.in-ByRef.is (rolls-ByRef c.in-ByRef.inner) c.requires).0 g) c.in-ByRef.is (rw c.get-in-ByRef.ensures at c.push_behind-in-ByRef.ensures)
 
-pub push_form-returns-in_ok-push-in-Named : goal.push_form-returns-in_ok-push-in-Named
-push_form-returns-in_ok-push-in-Named t c =
-    form_adds (IsType c.args.depth) c.args.slot IsPacked (named_byte c.in-Named.value) c.in-Named.coded c.args.ty.now (ty.Named c.in-Named.value c.in-Named.coded) c.args.out.now c.push-in-Named.new.self c.push_number.new.out c.push_number.result (λ text g. named c.in-Named.value g) c.in-Named.is (rw c.named_byte.ensures at c.in_ok-push-in-Named.ensures.ok) c.push_number.ensures
+pub push_form-returns-in-Named : goal.push_form-returns-in-Named
+push_form-returns-in-Named t c =
+    form_adds (IsType c.args.depth) c.args.slot IsPacked (named_byte c.in-Named.value) c.in-Named.coded c.args.ty.now (ty.Named c.in-Named.value c.in-Named.coded) c.args.out.now c.push_coded.new.out c.push_coded.result (λ text g. named c.in-Named.value g) c.in-Named.is (rw c.named_byte.ensures at c.push_coded.ensures)
 
-pub push_form-returns-in_ok-push-in-Var : goal.push_form-returns-in_ok-push-in-Var
-push_form-returns-in_ok-push-in-Var t c =
-    form_adds (IsType c.args.depth) c.args.slot IsPacked 0x13 c.in-Var.n c.args.ty.now (ty.Var c.in-Var.n) c.args.out.now c.push-in-Var.new.self c.push_number-in-Var.new.out c.push_number-in-Var.result (λ text g. var g) c.in-Var.is c.in_ok-push-in-Var.ensures.ok c.push_number-in-Var.ensures
+pub push_form-returns-in-Var : goal.push_form-returns-in-Var
+push_form-returns-in-Var t c =
+    form_adds (IsType c.args.depth) c.args.slot IsPacked 0x13 c.in-Var.n c.args.ty.now (ty.Var c.in-Var.n) c.args.out.now c.push_coded-in-Var.new.out c.push_coded-in-Var.result (λ text g. var g) c.in-Var.is c.push_coded-in-Var.ensures
 
-pub push_form-returns-in_ok-push-in-MVar : goal.push_form-returns-in_ok-push-in-MVar
-push_form-returns-in_ok-push-in-MVar t c =
-    form_adds (IsType c.args.depth) c.args.slot IsPacked 0x1E c.in-MVar.n c.args.ty.now (ty.MVar c.in-MVar.n) c.args.out.now c.push-in-MVar.new.self c.push_number-in-MVar.new.out c.push_number-in-MVar.result (λ text g. mvar g) c.in-MVar.is c.in_ok-push-in-MVar.ensures.ok c.push_number-in-MVar.ensures
+pub push_form-returns-in-MVar : goal.push_form-returns-in-MVar
+push_form-returns-in-MVar t c =
+    form_adds (IsType c.args.depth) c.args.slot IsPacked 0x1E c.in-MVar.n c.args.ty.now (ty.MVar c.in-MVar.n) c.args.out.now c.push_coded-in-MVar.new.out c.push_coded-in-MVar.result (λ text g. mvar g) c.in-MVar.is c.push_coded-in-MVar.ensures
+
+pub push_form-returns-in-SzArray : goal.push_form-returns-in-SzArray
+push_form-returns-in-SzArray t c =
+    form_adds (IsType c.args.depth) c.args.slot (IsType c.args.depth Plain) 0x1D c.in-SzArray.inner c.args.ty.now (ty.SzArray c.in-SzArray.inner) c.args.out.now c.push_behind-in-SzArray.new.out c.push_behind-in-SzArray.result (λ text g. sz_array g) c.in-SzArray.is (rw c.get-in-SzArray.ensures at c.push_behind-in-SzArray.ensures)
+
+pub push_form-returns-in-Pinned : goal.push_form-returns-in-Pinned
+push_form-returns-in-Pinned t c =
+    form_adds (IsType c.args.depth) c.args.slot (IsType c.args.depth (kept c.args.slot)) 0x45 c.in-Pinned.inner c.args.ty.now (ty.Pinned c.in-Pinned.inner) c.args.out.now c.push_behind-in-Pinned.new.out c.push_behind-in-Pinned.result (λ text g. pinned (in_form (IsValidType c.args.depth) c.args.slot c.args.ty.now (ty.Pinned c.in-Pinned.inner) (SigTy-F.Pinned c.in-Pinned.inner) c.in-Pinned.is (rolls-Pinned c.in-Pinned.inner) c.requires).0 g) c.in-Pinned.is (rw (c.kept-in-Pinned.ensures, c.get-in-Pinned.ensures) at c.push_behind-in-Pinned.ensures)
 
 pub push_form-returns-in_ok-push-in-Func : goal.push_form-returns-in_ok-push-in-Func
 push_form-returns-in_ok-push-in-Func t c =
-    form_adds (IsType c.args.depth) c.args.slot (IsMethod (IsType c.args.depth) Pointer) 0x1B c.in-Func.method c.args.ty.now (ty.Func c.in-Func.method) c.args.out.now c.push-in-Func.new.self c.push_method.new.out c.push_method.result (λ text g. func g) c.in-Func.is c.in_ok-push-in-Func.ensures.ok (rw c.get-in-Func.ensures at c.push_method.ensures)
-
-pub push_form-returns-in_ok-push-in-SzArray : goal.push_form-returns-in_ok-push-in-SzArray
-push_form-returns-in_ok-push-in-SzArray t c =
-    form_adds (IsType c.args.depth) c.args.slot (IsType c.args.depth Plain) 0x1D c.in-SzArray.inner c.args.ty.now (ty.SzArray c.in-SzArray.inner) c.args.out.now c.push-in-SzArray.new.self c.push_type-in-SzArray.new.out c.push_type-in-SzArray.result (λ text g. sz_array g) c.in-SzArray.is c.in_ok-push-in-SzArray.ensures.ok (rw c.get-in-SzArray.ensures at c.push_type-in-SzArray.ensures)
-
-pub push_form-returns-in_ok-push-in-Pinned : goal.push_form-returns-in_ok-push-in-Pinned
-push_form-returns-in_ok-push-in-Pinned t c =
-    form_adds (IsType c.args.depth) c.args.slot (IsType c.args.depth c.kept-in-Pinned.result) 0x45 c.in-Pinned.inner c.args.ty.now (ty.Pinned c.in-Pinned.inner) c.args.out.now c.push-in-Pinned.new.self c.push_type-in-Pinned.new.out c.push_type-in-Pinned.result (λ text g. pinned (in_form (IsValidType c.args.depth) c.args.slot c.args.ty.now (ty.Pinned c.in-Pinned.inner) (SigTy-F.Pinned c.in-Pinned.inner) c.in-Pinned.is (rolls-Pinned c.in-Pinned.inner) c.requires).0 (rw (← c.kept-in-Pinned.ensures) g)) c.in-Pinned.is c.in_ok-push-in-Pinned.ensures.ok (rw c.get-in-Pinned.ensures at c.push_type-in-Pinned.ensures)
+    let behind = behind_adds (IsMethod (IsType c.args.depth) Pointer) 0x1B c.in-Func.method c.args.out.now c.push-in-Func.new.self c.push_method.new.out c.in_ok-push-in-Func.ensures.ok in
+    form_adds (IsType c.args.depth) c.args.slot (IsMethod (IsType c.args.depth) Pointer) 0x1B c.in-Func.method c.args.ty.now (ty.Func c.in-Func.method) c.args.out.now c.push_method.new.out c.push_method.result (λ text g. func g) c.in-Func.is
+    (on_ok _ _ c.push_method.result behind (rw c.get-in-Func.ensures at c.push_method.ensures))
 
 pub push_form-returns-in_ok-push_numbers-in-Array : goal.push_form-returns-in_ok-push_numbers-in-Array
 push_form-returns-in_ok-push_numbers-in-Array t c =
-    let item = rw c.get-in-Array.ensures at c.in_ok-push_type-in-Array.ensures in
+    let item = rw c.get-in-Array.ensures at c.in_ok-push_behind-in-Array.ensures in
     let sizes = rw c.as_slice.ensures at c.in_ok-push_numbers-in-Array.ensures in
     on_ok _ _ c.push_bounds.result
-    (array_adds (IsType c.args.depth) c.args.slot c.args.ty.now c.in-Array.item c.in-Array.rank c.in-Array.sizes c.in-Array.lows c.args.out.now c.push-in-Array.new.self c.push_type-in-Array.new.out c.push_number-in-Array.new.out c.push_numbers.new.out c.push_bounds.new.out c.in-Array.is c.in_ok-push-in-Array.ensures.ok item c.in_ok-push_number-in-Array.ensures sizes)
+    (array_adds (IsType c.args.depth) c.args.slot c.args.ty.now c.in-Array.item c.in-Array.rank c.in-Array.sizes c.in-Array.lows c.args.out.now c.push_behind-in-Array.new.out c.push_number.new.out c.push_numbers.new.out c.push_bounds.new.out c.in-Array.is item c.in_ok-push_number-in-Array.ensures sizes)
     (rw c.as_slice-in-Array.ensures at c.push_bounds.ensures)
 
-pub push_form-returns-in_ok-push_number-in-Inst : goal.push_form-returns-in_ok-push_number-in-Inst
-push_form-returns-in_ok-push_number-in-Inst t c =
+pub push_form-returns-in_ok-push_coded-in-Inst : goal.push_form-returns-in_ok-push_coded-in-Inst
+push_form-returns-in_ok-push_coded-in-Inst t c =
+    let coded = rw c.named_byte-in-Inst.ensures at c.in_ok-push_coded-in-Inst.ensures in
     on_ok _ _ c.push_types.result
-    (inst_adds (IsType c.args.depth) c.args.slot c.args.ty.now c.in-Inst.value c.in-Inst.coded c.in-Inst.args c.named_byte-in-Inst.result c.args.out.now c.push-in-Inst.new.self c.push-in-Inst-2.new.self c.push_number-in-Inst.new.out c.push_types.new.out c.in-Inst.is c.named_byte-in-Inst.ensures c.in_ok-push-in-Inst.ensures.ok c.in_ok-push-in-Inst-2.ensures.ok c.in_ok-push_number-in-Inst.ensures)
+    (inst_adds (IsType c.args.depth) c.args.slot c.args.ty.now c.in-Inst.value c.in-Inst.coded c.in-Inst.args c.args.out.now c.push-in-Inst.new.self c.push_coded-in-Inst.new.out c.push_types.new.out c.in-Inst.is c.in_ok-push-in-Inst.ensures.ok coded)
     (rw c.as_slice-in-Inst.ensures at c.push_types.ensures)
 
-pub push_form-returns-in_ok-push_number-in-Modified : goal.push_form-returns-in_ok-push_number-in-Modified
-push_form-returns-in_ok-push_number-in-Modified t c =
-    on_ok _ _ c.push_type-in-Modified.result
-    (modified_adds (IsType c.args.depth) c.args.slot c.args.ty.now c.in-Modified.inner c.in-Modified.required c.in-Modified.coded c.modifier_byte.result c.kept.result c.args.out.now c.push-in-Modified.new.self c.push_number-in-Modified.new.out c.push_type-in-Modified.new.out c.in-Modified.is c.modifier_byte.ensures c.kept.ensures c.in_ok-push-in-Modified.ensures.ok c.in_ok-push_number-in-Modified.ensures)
-    (rw c.get-in-Modified.ensures at c.push_type-in-Modified.ensures)
+pub push_form-returns-in_ok-push_coded-in-Modified : goal.push_form-returns-in_ok-push_coded-in-Modified
+push_form-returns-in_ok-push_coded-in-Modified t c =
+    let coded = rw c.modifier_byte.ensures at c.in_ok-push_coded-in-Modified.ensures in
+    on_ok _ _ c.push_type.result
+    (modified_adds (IsType c.args.depth) c.args.slot c.args.ty.now c.in-Modified.inner c.in-Modified.required c.in-Modified.coded c.args.out.now c.push_coded-in-Modified.new.out c.push_type.new.out c.in-Modified.is coded)
+    (rw (c.kept.ensures, c.get-in-Modified.ensures) at c.push_type.ensures)
 
 pub push_type-overflow_sub-depth : goal.push_type-overflow_sub-depth
 push_type-overflow_sub-depth t c = deep c.args.depth c.args.slot c.args.ty.now c.requires

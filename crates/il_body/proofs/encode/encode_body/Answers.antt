@@ -1,23 +1,49 @@
-use Rattle.std.proofs.Common.{◌≡◌, ◌+◌, ◌∙◌, ◌++◌, ◌<◌, ◌^◌, ◌*◌, ◌≤◌, length, sym, ap, subst, arith, refl}
-use Rattle.cil_model.specs.SmallCode.{AllWritable, starts, encoded}
-use Rattle.il_body.proofs.Written.{written, length-starts, encoded_small}
+use Rattle.std.proofs.Common.{◌≡◌, ◌%◌, ◌==◌, get_or, ◌∙◌, ◌≤◌, ◌^◌, ℕ, List, arith, subst, ap, sym, map, length, ◌++◌}
+use Rattle.std.proofs.lemmas.Bool.{leb-true}
+use Rattle.cil_model.specs.declared.body.Instr.{Instr}
+use Rattle.cil_model.specs.BodyOf.{StandsFor}
+use Rattle.il_body.specs.BodyEncoding.{AllValid, AllValidRegions, as_encoded, behind_code, body_bytes, clause_of, code_bytes_of, code_from, counted, fits_tiny, header_bytes, starts}
+use Rattle.il_body.proofs.WholeLaws.{body_back, more_places, put_together, small_whole, tiny_form}
 use Rattle.il_body.proofs.encode.encode_body.Goals as goal
 
-pub code_of-requires-clause-writable : goal.code_of-requires-clause-writable
-code_of-requires-clause-writable c =
+pub code_of-requires-clause-valid : goal.code_of-requires-clause-valid
+code_of-requires-clause-valid c =
+    let e = c.as_slice-instrs.ensures in
     let is = c.args.body.now.instrs in
-    let e : length is + 1 ≡ length c.as_slice-3.result.now = sym (ap length (c.as_slice-3.ensures ∙ c.in_ok-places.ensures ∙ ap (starts 0) c.as_slice.ensures) ∙ length-starts 0 is) in
-    (c.requires.writable.0, rw (← e, c.as_slice-2.ensures) c.requires.writable.1)
+    let places = c.as_slice.ensures ∙ c.in_ok-places.ensures ∙ ap (starts 0) e in
+    let more = more_places c.as_slice.result.now is places in
+    (c.requires.0, length is, omega arith, subst (AllValid c.requires.0 (length is)) (sym e) c.requires.1.instrs)
 
 pub header_of-requires-clause-small : goal.header_of-requires-clause-small
 header_of-requires-clause-small c =
-    let e = c.len.ensures ∙ ap length c.in_ok-code.ensures in
-    omega (arith, e, encoded_small c.as_slice-3.result.now 0 c.as_slice-2.result.now, ap length c.as_slice-2.ensures)
+    small_whole c.as_slice.result.now c.as_slice-instrs.result.now c.len.result c.in_ok-code.code (leb-true (counted c.as_slice-instrs.result.now) (2 ^ 22) (sym c.if-not-is_within_limit.ensures)) c.in_ok-code.ensures c.len.ensures
+
+pub push_sections-requires : goal.push_sections-requires
+push_sections-requires c =
+    let is = c.args.body.now.instrs in
+    let places = c.as_slice-2.ensures ∙ c.in_ok-places.ensures ∙ ap (starts 0) c.as_slice-instrs.ensures in
+    (length is, more_places c.as_slice-2.result.now is places, subst (AllValidRegions (length is)) (sym c.as_slice-3.ensures) c.requires.1.regions)
+
+whole : (c : goal.After-drop-places-inside-2) → c.push_sections.new.out ≡ body_bytes c.args.body.now
+whole c =
+    let body = c.args.body.now in
+    let e = c.as_slice-instrs.ensures in
+    let p : c.in_ok-places.places ≡ starts 0 body.instrs = c.in_ok-places.ensures ∙ ap (starts 0) e in
+    let code : c.in_ok-code.code ≡ code_from c.in_ok-places.places 0 body.instrs = c.in_ok-code.ensures ∙ (λ i. code_from (c.as_slice.ensures i) 0 (e i)) in
+    let out : c.push_sections.new.out ≡ c.append.new.self ++ behind_code (length c.append.new.self) (map (clause_of c.in_ok-places.places) body.regions) = c.in_ok-push_sections.ensures ∙ (λ i. c.append.new.self ++ behind_code (length c.append.new.self) (map (clause_of (c.as_slice-2.ensures i)) (c.as_slice-3.ensures i))) in
+    let head = c.in_ok-bytes.ensures.value ∙ ap (header_bytes body) c.len.ensures in
+    put_together body c.in_ok-places.places c.in_ok-code.code c.in_ok-bytes.bytes c.append.new.self c.push_sections.new.out p code head c.in_ok-append.ensures out
+
+pub returns-clause-bytes : goal.returns-clause-bytes
+returns-clause-bytes c = whole c
 
 pub returns-clause-body : goal.returns-clause-body
-returns-clause-body c a w =
-    written a c.args.body.now c.as_slice-3.result.now c.in_ok-code.code c.append.new.self
-    (c.as_slice-3.ensures ∙ c.in_ok-places.ensures ∙ ap (starts 0) c.as_slice.ensures)
-    (c.in_ok-code.ensures ∙ ap (encoded c.as_slice-3.result.now 0) c.as_slice-2.ensures)
-    (c.in_ok-append.ensures ∙ rw (c.in_ok-bytes.ensures, c.len.ensures) refl)
-    c.requires.regions c.requires.few w
+returns-clause-body c a valid =
+    let body = c.args.body.now in
+    let few : counted body.instrs ≤ 2 ^ 22 = subst (λ (l : List Instr). counted l ≤ 2 ^ 22) c.as_slice-instrs.ensures (leb-true (counted c.as_slice-instrs.result.now) (2 ^ 22) (sym c.if-not-is_within_limit.ensures)) in
+    subst (λ (b : List ℕ). StandsFor a b (as_encoded body) (length b)) (sym (whole c)) (body_back a body valid few c.in_ok-bytes.ensures.stack)
+
+pub returns-clause-tiny : goal.returns-clause-tiny
+returns-clause-tiny c =
+    let body = c.args.body.now in
+    subst (λ (b : List ℕ). (get_or b 0 0 % 4 == 2) ≡ fits_tiny body (length (code_bytes_of body.instrs))) (sym (whole c)) (tiny_form body)

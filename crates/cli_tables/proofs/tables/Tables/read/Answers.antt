@@ -3,6 +3,7 @@ use Rattle.cil_base.specs.Refusals.{NoneBroken}
 use Rattle.cli_tables.specs.TableRules.{HeaderBroken}
 use Rattle.cli_tables.proofs.HeaderLaws.{refused_header, sound_header}
 use Rattle.cli_tables.proofs.ShapeLaws.{read_cells, read_shape, sound_rows, refused_rows}
+use Rattle.cli_tables.proofs.KeptFitLaws.{read_fits}
 use Rattle.cli_tables.proofs.tables.Tables.read.Goals as goal
 
 pub returns-in-Some-clause-refused : goal.returns-in-Some-clause-refused
@@ -35,3 +36,7 @@ returns-in-Err-clause-refused c =
     refused_rows c.args.heaps.now.bytes c.tables-stream.result.now c.args.assembly c.in-Err.fault c.tables-stream.ensures.bytes
     (sound_header c.args.heaps.now.bytes c.tables-stream.result.now c.tables_offset.result c.args.assembly c.tables-stream.ensures.bytes c.tables_offset.ensures.offset (sym c.first_in_header.ensures ∙ c.in_default.is))
     c.in-Err.ensures.refused
+
+pub returns-in-Ok-clause-fit : goal.returns-in-Ok-clause-fit
+returns-in-Ok-clause-fit c =
+    read_fits c.args.heaps.now.bytes c.tables-stream.result.now c.args.assembly c.in-Ok.tables.items c.tables-stream.ensures.bytes (no_header c) c.in-Ok.ensures.clean (short c) c.rows_start_of-whole.ensures.bytes c.in-Ok.ensures.ok

@@ -1,0 +1,19 @@
+//! Bodies from bytes: headers, code and exception sections.
+#![tactic(auto)]
+
+mod decode;
+mod first;
+mod header;
+mod instr;
+mod layout;
+mod numbers;
+mod operand;
+mod regions;
+mod sections;
+mod small;
+mod targets;
+
+pub use decode::decode_body;
+pub use first::calls_requires;
+pub use layout::body_len;
+pub use small::decode_small;
