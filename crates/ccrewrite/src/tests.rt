@@ -16,7 +16,7 @@ const REWRITTEN: [u8; 20] = [
     0x02, 0x17, 0x58, 0x2A,
 ];
 
-fn words_from(alloc: Global, texts: &[&str]) -> Result<Vec<String>, AllocError> {
+pub fn words_from(alloc: Global, texts: &[&str]) -> Result<Vec<String>, AllocError> {
     let mut words = Vec::new(alloc);
     for text in texts {
         words.push(String::from_str(alloc, text)?)?;
@@ -24,7 +24,7 @@ fn words_from(alloc: Global, texts: &[&str]) -> Result<Vec<String>, AllocError> 
     Ok(words)
 }
 
-fn listed(alloc: Global, call: Option<u32>) -> Result<U32s, AllocError> {
+pub fn listed(alloc: Global, call: Option<u32>) -> Result<U32s, AllocError> {
     let mut calls = U32s::new(alloc);
     if let Some(call) = call {
         calls.push(call)?;

@@ -1,0 +1,273 @@
+// `rewrite` on assemblies that are made here: whole ones, cut ones, and ones with a field changed.
+
+use crate::program::run_words;
+use crate::tests::{listed, words_from};
+use asm_gen::Builder;
+use cil_base::{Fault, U32s};
+use cli_heaps::Heaps;
+use cli_tables::Tables;
+use outside_core::{MemSink, MemStore};
+use pe_image::Image;
+use std::alloc::Global;
+
+/// Where the metadata begin in a sample without code, and where `#~` begins in them.
+const METADATA: usize = 0x248;
+
+const TABLES: usize = METADATA + 108;
+
+/// The bytes of an assembly of Module, `<Module>` and Assembly rows, and where one is wanted, of a class
+/// with a method; none where an index doesn't fit.
+#[tactic(auto, unfolding(cli_tables::specs::Schema::the_tables))]
+fn sample(alloc: Global, with_class: bool) -> Result<Vec<u8>, Fault> {
+    let mut builder = Builder::new(alloc)?;
+    let name = builder.string(b"a")?;
+    let module = builder.string(b"<Module>")?;
+    builder.row(0x00, &[0, name, 1, 0, 0])?;
+    builder.row(0x02, &[0, module, 0, 0, 1, 1])?;
+    if with_class {
+        let signature = builder.blob(&[0, 0, 1])?;
+        builder.row(0x02, &[1, name, 0, 0, 1, 1])?;
+        builder.row(0x06, &[0, 0, 0x416, name, signature, 1])?;
+    }
+    builder.row(0x20, &[0x8004, 1, 0, 0, 0, 0, 0, name, 0])?;
+    if !builder.fits() {
+        return Ok(Vec::new(alloc));
+    }
+    let bytes = builder.finish(alloc)?;
+    Ok(Vec::from_slice(alloc, bytes.as_slice())?)
+}
+
+/// An assembly that has a TypeRef row of the namespace of Code Contracts.
+#[tactic(auto, unfolding(cli_tables::specs::Schema::the_tables))]
+fn with_contracts(alloc: Global) -> Result<Vec<u8>, Fault> {
+    let mut builder = Builder::new(alloc)?;
+    let name = builder.string(b"a")?;
+    let contract = builder.string(b"Contract")?;
+    let namespace = builder.string(b"System.Diagnostics.Contracts")?;
+    builder.row(0x00, &[0, name, 1, 0, 0])?;
+    builder.row(0x01, &[0, name, name])?;
+    builder.row(0x01, &[0, contract, namespace])?;
+    builder.row(0x02, &[0, name, 0, 0, 1, 1])?;
+    builder.row(0x20, &[0x8004, 1, 0, 0, 0, 0, 0, name, 0])?;
+    if !builder.fits() {
+        return Ok(Vec::new(alloc));
+    }
+    let bytes = builder.finish(alloc)?;
+    Ok(Vec::from_slice(alloc, bytes.as_slice())?)
+}
+
+/// The tables of an assembly; none where it breaks a rule.
+fn tables_of(alloc: Global, bytes: &[u8]) -> Option<Tables> {
+    if bytes.len() > u32::MAX as usize {
+        return None;
+    }
+    let image = Image::read(bytes, 0).ok()?;
+    let heaps = Heaps::read(image.metadata(), 0).ok()?;
+    Tables::read(alloc, &heaps, 0).ok()
+}
+
+/// Whether the two assemblies have the same rows, and the second stands in a larger image.
+fn has_the_rows(alloc: Global, old: &[u8], new: &[u8]) -> bool {
+    match (tables_of(alloc, old), tables_of(alloc, new)) {
+        (Some(before), Some(after)) => {
+            let mut same = old.len() < new.len();
+            for table in 0..45u8 {
+                for column in 0..9u8 {
+                    if before.column(table, column) != after.column(table, column) {
+                        same = false;
+                    }
+                }
+            }
+            same
+        }
+        _ => false,
+    }
+}
+
+/// What `rewrite --out OUT a.dll` answers where `a.dll` holds the bytes: whether the status and the text
+/// are these, and whether OUT has the rows of the bytes afterwards, where that is wanted, or `a.dll` is as
+/// it was.
+fn rewrite_answers(
+    alloc: Global,
+    bytes: &[u8],
+    out_name: &str,
+    failing: (Option<u32>, Option<u32>),
+    want: (u8, &[u8], bool),
+) -> Result<bool, Fault> {
+    let mut store = MemStore::new(alloc, listed(alloc, failing.0)?);
+    store.put_file("a.dll", bytes)?;
+    let mut out = MemSink::new(alloc, 100, listed(alloc, failing.1)?)?;
+    let words = words_from(
+        alloc,
+        &[
+            "rewrite", "--guard", "3", "--out", out_name, "--level", "4", "a.dll",
+        ],
+    )?;
+    let status = run_words(alloc, words.as_slice(), &mut store, &mut out);
+    let is_told = status == want.0 && out.taken() == want.1;
+    if want.2 {
+        return match store.file(out_name) {
+            Some(new) => Ok(is_told && has_the_rows(alloc, bytes, new)),
+            None => Ok(false),
+        };
+    }
+    Ok(is_told && store.file("a.dll") == Some(bytes))
+}
+
+const DONE: &[u8] = b"ok: 1 assemblies, 0 methods, 0 clauses\n";
+
+#[test]
+fn the_rows_are_kept(rt: HostRuntime) -> Result<(), Fault> {
+    let alloc = rt.alloc();
+    let empty = sample(alloc, false)?;
+    let class = sample(alloc, true)?;
+    let to_out = rewrite_answers(alloc, &empty, "out", (None, None), (0, DONE, true))?;
+    assert!(rt; to_out);
+    let in_place = rewrite_answers(alloc, &empty, "a.dll", (None, None), (0, DONE, true))?;
+    assert!(rt; in_place);
+    let with_class = rewrite_answers(alloc, &class, "out", (None, None), (0, DONE, true))?;
+    assert!(rt; with_class);
+    Ok(())
+}
+
+#[test]
+fn an_assembly_with_contracts_waits(rt: HostRuntime) -> Result<(), Fault> {
+    let alloc = rt.alloc();
+    let bytes = with_contracts(alloc)?;
+    let text = b"refused: Z1 assembly 0 table 01 row 2 at 0\n";
+    let refused = rewrite_answers(alloc, &bytes, "out", (None, None), (1, text, false))?;
+    assert!(rt; refused);
+    Ok(())
+}
+
+#[test]
+fn failing_calls_of_rewrite_are_told(rt: HostRuntime) -> Result<(), Fault> {
+    let alloc = rt.alloc();
+    let bytes = sample(alloc, false)?;
+    let store = b"store: a.dll\n".as_slice();
+    let read = rewrite_answers(alloc, &bytes, "a.dll", (Some(0), None), (3, store, false))?;
+    assert!(rt; read);
+    let replaced = rewrite_answers(alloc, &bytes, "a.dll", (Some(1), None), (3, store, false))?;
+    assert!(rt; replaced);
+    let put = rewrite_answers(alloc, &bytes, "a.dll", (None, Some(0)), (4, b"", true))?;
+    assert!(rt; put);
+    let both = rewrite_answers(alloc, &bytes, "a.dll", (Some(1), Some(0)), (4, b"", false))?;
+    assert!(rt; both);
+    Ok(())
+}
+
+#[test]
+fn a_missing_assembly_is_told(rt: HostRuntime) -> Result<(), Fault> {
+    let alloc = rt.alloc();
+    let mut store = MemStore::new(alloc, U32s::new(alloc));
+    let mut out = MemSink::new(alloc, 100, U32s::new(alloc))?;
+    let words = words_from(alloc, &["rewrite", "--out", "a.dll", "a.dll"])?;
+    let status = run_words(alloc, words.as_slice(), &mut store, &mut out);
+    assert!(rt; status == 3 && out.taken() == b"store: a.dll\n".as_slice());
+    Ok(())
+}
+
+/// Whether `rewrite` of the bytes is refused with a text that begins so, and leaves the files.
+fn is_refused(alloc: Global, bytes: &[u8], text: &[u8]) -> Result<bool, Fault> {
+    let mut store = MemStore::new(alloc, U32s::new(alloc));
+    store.put_file("a.dll", bytes)?;
+    let mut out = MemSink::new(alloc, 100, U32s::new(alloc))?;
+    let words = words_from(alloc, &["rewrite", "--out", "out.dll", "a.dll"])?;
+    let status = run_words(alloc, words.as_slice(), &mut store, &mut out);
+    Ok(
+        status == 1
+            && out.taken().starts_with(text)
+            && store.file("a.dll") == Some(bytes)
+            && store.file("out.dll").is_none(),
+    )
+}
+
+/// The same for a sample with some bytes written over.
+fn is_refused_with(
+    alloc: Global,
+    with_class: bool,
+    changes: &[(usize, u8)],
+    text: &[u8],
+) -> Result<bool, Fault> {
+    let mut bytes = sample(alloc, with_class)?;
+    for (at, byte) in changes {
+        match bytes.get_mut(*at) {
+            Some(place) => *place = *byte,
+            None => return Ok(false),
+        }
+    }
+    is_refused(alloc, &bytes, text)
+}
+
+/// Up to which length a cut image is refused so.
+const CUTS: [(usize, &[u8]); 7] = [
+    (2, b"refused: P1 assembly 0 table 00 row 0 at 0\n"),
+    (64, b"refused: P6 assembly 0 table 00 row 0 at 60\n"),
+    (132, b"refused: P1 assembly 0 table 00 row 0 at 128\n"),
+    (136, b"refused: P6 assembly 0 table 00 row 0 at 134\n"),
+    (150, b"refused: P6 assembly 0 table 00 row 0 at 148\n"),
+    (154, b"refused: P6 assembly 0 table 00 row 0 at 152\n"),
+    (0x800, b"refused: P"),
+];
+
+#[test]
+fn every_cut_image_is_refused(rt: HostRuntime) -> Result<(), Fault> {
+    let alloc = rt.alloc();
+    let bytes = sample(alloc, false)?;
+    assert!(rt; bytes.len() == 0x800);
+    let mut len = 0;
+    for (end, text) in CUTS {
+        while len < end && len < bytes.len() {
+            let refused = is_refused(alloc, &bytes[..len], text)?;
+            assert!(rt; refused);
+            len += 1;
+        }
+    }
+    Ok(())
+}
+
+#[test]
+fn a_changed_field_is_refused(rt: HostRuntime) -> Result<(), Fault> {
+    let alloc = rt.alloc();
+    // .reloc's VirtualAddress as .rsrc's
+    let sections = is_refused_with(
+        alloc,
+        true,
+        &[(0x1D5, 0x40)],
+        b"refused: P3 assembly 0 table 00 row 0 at 456\n",
+    )?;
+    assert!(rt; sections);
+    // Module.Name
+    let name = is_refused_with(
+        alloc,
+        true,
+        &[(TABLES + 42, 0xFF), (TABLES + 43, 0xFF)],
+        b"refused: M7 assembly 0 table 00 row 1 at 1\n",
+    )?;
+    assert!(rt; name);
+    // Extends of the first TypeDef row names the ninth TypeRef row
+    let base = is_refused_with(
+        alloc,
+        true,
+        &[(TABLES + 58, 37)],
+        b"refused: M5 assembly 0 table 02 row 1 at 3\n",
+    )?;
+    assert!(rt; base);
+    // MethodList of the first TypeDef row
+    let list = is_refused_with(
+        alloc,
+        true,
+        &[(TABLES + 62, 2)],
+        b"refused: M6 assembly 0 table 02 row 2 at 5\n",
+    )?;
+    assert!(rt; list);
+    // the size of `#~` 80 in place of 84
+    let size = is_refused_with(
+        alloc,
+        false,
+        &[(METADATA + 36, 80)],
+        b"refused: M4 assembly 0 table 20 row 1 at 0\n",
+    )?;
+    assert!(rt; size);
+    Ok(())
+}
