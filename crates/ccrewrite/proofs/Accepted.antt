@@ -1,11 +1,11 @@
 -- The rules on the one body that the bytes stand for are rules on the bytes.
-use Rattle.std.proofs.Common.{◌≡◌, ℕ, List, ap, sym, ◌∙◌, subst, inl, inr, get_or, take, false}
+use Rattle.std.proofs.Common.{◌≡◌, ℕ, List, ap, sym, ◌∙◌, subst, inl, inr, get_or, take}
 use Rattle.cil_base.specs.declared.refusal.Refusal.{Refusal}
 use Rattle.cil_base.specs.declared.rule.Rule.TheVariants.{C1, C2}
 use Rattle.cil_base.specs.Refusals.{First, NoneBroken, refusal}
 use Rattle.cil_model.specs.declared.body.Body.{Body}
 use Rattle.cil_model.specs.SmallCode.{SmallBodyOf}
-use Rattle.ccrewrite.specs.Splice.{CallBreaks, HeightBreaks, SecondBreaks, CallsAt, first_call, is_one, height}
+use Rattle.ccrewrite.specs.Splice.{CallBreaks, CallsAt, first_call, is_one, height}
 use Rattle.ccrewrite.specs.Program.{ContractBreaks, body_place}
 
 -- The calls of bodies with equal instructions and offsets break the same rules.

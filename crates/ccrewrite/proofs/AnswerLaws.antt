@@ -1,5 +1,5 @@
 -- The answers of a command, put together from its steps.
-use Rattle.std.proofs.Common.{◌≡◌, ◌≢◌, ◌⊎◌, ℕ, ◌+◌, ◌<◌, ◌≤◌, List, [], ◌∷◌, ◌++◌, length, take, Bool, true, false, Option, Some, None, Result, Ok, Err, IsTrue, IfOk, IsOkAnd, string_bytes, refl, sym, ap, ◌∙◌, subst, inl, inr, arith}
+use Rattle.std.proofs.Common.{◌≡◌, ◌⊎◌, ℕ, ◌<◌, ◌≤◌, List, [], ◌∷◌, length, Bool, false, Option, Some, None, Result, Ok, Err, IsTrue, IfOk, IsOkAnd, string_bytes, refl, sym, ap, ◌∙◌, subst, inl, inr, arith}
 use Rattle.std.specs.declared.alloc.AllocError.{AllocError}
 use Rattle.cil_base.specs.Causes.{Rose}
 use Rattle.cil_base.specs.declared.refusal.Refusal.{Refusal}
@@ -21,7 +21,7 @@ use Rattle.pe_image.specs.Rules as image
 use Rattle.pe_image.specs.Cli.{metadata_of}
 use Rattle.cli_heaps.specs.RootRules as heaps
 use Rattle.cli_tables.specs.TableRules.{HeaderBroken, RowsBroken}
-use Rattle.ccrewrite.specs.Program.{IsRewriting, SizeBreaks, IsMade, IsRefusal, IsInnerRefusal, IsBodyRefusal, IsEither, KeepsInnerRules, IsAccepted, PutsFile, IsDone, IsRefused, StoreFailed, FromBytes, FileAnswer, WrongAnswer, Answer, Puts, Expected, ContractBreaks, body_place, size_limit, too_long}
+use Rattle.ccrewrite.specs.Program.{SizeBreaks, IsMade, IsRefusal, IsInnerRefusal, IsBodyRefusal, IsEither, KeepsInnerRules, PutsFile, FromBytes, FileAnswer, WrongAnswer, Answer, Puts, Expected, ContractBreaks, body_place, size_limit, too_long}
 
 -- What is known of a reply, and of want of memory.
 pub replied_by : (P : ℕ → List ℕ → Type 0) (result : Result Reply AllocError) → IfOk result (λ a. P a.status (string_bytes a.text)) → P 5 memory_text → Replied P result

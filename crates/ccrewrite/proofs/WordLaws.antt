@@ -1,5 +1,5 @@
 -- The words of a command.
-use Rattle.std.proofs.Common.{◌≡◌, ℕ, ◌+◌, ◌-◌, ◌≤◌, ◌<◌, Bool, true, false, ◌&&◌, ◌||◌, not, ◌==◌, List, [], ◌∷◌, length, take, drop, get_or, Option, Some, None, refl, sym, ap, ◌∙◌, subst, arith, string_bytes}
+use Rattle.std.proofs.Common.{◌≡◌, ℕ, ◌+◌, ◌-◌, ◌≤◌, Bool, true, false, ◌&&◌, ◌||◌, ◌==◌, List, [], ◌∷◌, length, take, drop, get_or, Option, Some, None, refl, sym, ap, ◌∙◌, subst, arith, string_bytes}
 use Rattle.std.specs.Prelude.{String, codes, is_some, if◌then◌else◌}
 use Rattle.std.specs.Option.{option_or}
 use Rattle.std.specs.Str.{bytes_eq}
@@ -7,7 +7,6 @@ use Rattle.std.specs.declared.alloc.Global.{Global}
 use Rattle.std.proofs.Math.Seq.{take-length}
 use Rattle.std.proofs.lemmas.Slice.Eq.{bytes_eq-Decides}
 use Rattle.cil_model.specs.declared.contract.Settings.{Settings}
-use Rattle.ccrewrite.specs.declared.options.OptionName.{OptionName}
 use Rattle.ccrewrite.specs.Options.{texts, is_dashed, number_of, value_of, positionals, wrong_option, wrong_positional, are_given, wrong_behind}
 use Rattle.ccrewrite.specs.Words.{wrong_word, rewrite_options, number_or, AreSettings, IsBodyCommand, IsRewriteCommand}
 

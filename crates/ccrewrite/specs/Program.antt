@@ -1,5 +1,5 @@
 -- What the program answers, and when.
-use Rattle.std.specs.Prelude.{◌≡◌, ◌≢◌, ◌⊎◌, ℕ, ◌*◌, ◌^◌, ◌<◌, ◌≤◌, Bool, List, [], ◌∷◌, ◌++◌, length, take, Option, Some, None, IsTrue, IsSome}
+use Rattle.std.specs.Prelude.{◌≡◌, ◌≢◌, ◌⊎◌, ℕ, ◌*◌, ◌^◌, ◌<◌, ◌≤◌, Bool, List, ◌++◌, length, take, Option, Some, None, IsTrue}
 use Rattle.cil_base.specs.Causes.{Rose}
 use Rattle.cil_base.specs.Refusals.{First, NoneBroken, InTurn}
 use Rattle.cil_base.specs.declared.rule.Rule.TheVariants.{L1, L5}

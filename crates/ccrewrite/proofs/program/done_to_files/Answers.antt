@@ -1,5 +1,5 @@
-use Rattle.std.proofs.Common.{◌≡◌, ◌≤◌, ◌∙◌, length, sym, ap, refl, subst, Some, List, ℕ}
-use Rattle.ccrewrite.specs.Program.{FromBytes, FileAnswer, size_limit, too_long}
+use Rattle.std.proofs.Common.{◌∙◌, sym, ap, Some}
+use Rattle.ccrewrite.specs.Program.{FileAnswer}
 use Rattle.ccrewrite.specs.Text.{refusal_text}
 use Rattle.ccrewrite.proofs.AnswerLaws.{replied_by, replied_weaker, ok_and, read_refused, file_memory, from_read}
 use Rattle.ccrewrite.proofs.program.done_to_files.Goals as goal

@@ -1,5 +1,4 @@
-use Rattle.std.proofs.Common.{◌≡◌, List, ℕ, [], ◌∷◌, None, Some, sym, ap, ◌∙◌}
-use Rattle.std.specs.Prelude.{codes}
+use Rattle.std.proofs.Common.{◌≡◌, [], ◌∷◌, None, sym, ap, ◌∙◌}
 use Rattle.ccrewrite.specs.Options.{texts, value_of, positionals, wrong_behind}
 use Rattle.ccrewrite.specs.Words.{rewrite_options}
 use Rattle.ccrewrite.proofs.WordLaws.{one_positional, out_there, only_name}
