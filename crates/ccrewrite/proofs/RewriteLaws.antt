@@ -1,11 +1,11 @@
 -- An assembly written anew: what its parts say of it.
-use Rattle.std.proofs.Common.{◌≡◌, ◌⊎◌, ℕ, ◌-◌, ◌^◌, ◌≤◌, eqb, ltb, Bool, true, false, cond, not, ◌||◌, List, [], length, Option, Some, None, option_map, take, drop, Result, Ok, Err, refl, sym, ap, ◌∙◌, subst, inl, inr, arith}
+use Rattle.std.proofs.Common.{◌≡◌, ℕ, ◌-◌, ◌^◌, ◌≤◌, eqb, ltb, Bool, true, false, cond, not, ◌||◌, List, [], length, Option, Some, None, option_map, take, drop, Result, Ok, Err, refl, sym, ap, ◌∙◌, subst, inl, inr, arith}
 use Rattle.std.specs.Prelude.{IfOk, OnOk, unwrap_or}
 use Rattle.std.proofs.lemmas.List.{take_all, take-append-drop, length-append, length-drop}
 use Rattle.std.proofs.lemmas.Bool.{cases_Bool, and_parts, eqb-true}
 use Rattle.cil_base.specs.declared.refusal.Refusal.{Refusal}
 use Rattle.cil_base.specs.declared.refusal.Fault.{Fault}
-use Rattle.cil_base.specs.Refusals.{First, NoneBroken, InTurn, Fails, Test, IfRefused, OnRefused}
+use Rattle.cil_base.specs.Refusals.{First, NoneBroken, InTurn, Fails, IfRefused, OnRefused}
 use Rattle.cil_base.proofs.RefusalLaws.{IfRefused-weaker, OnRefused-weaker}
 use Rattle.pe_image.specs.declared.growth.Growth.{Growth}
 use Rattle.pe_image.specs.Headers.{headers_of}
@@ -19,12 +19,12 @@ use Rattle.pe_image.specs.Images.{File}
 use Rattle.cli_heaps.specs.Root as root
 use Rattle.cli_heaps.specs.Root.{Metadata}
 use Rattle.cli_heaps.specs.RootRules as heaps
-use Rattle.cli_heaps.specs.Written.{parts, written, limit_tests, IsWritten}
+use Rattle.cli_heaps.specs.Written.{limit_tests, IsWritten}
 use Rattle.cli_tables.specs.Layout.{tables_in}
 use Rattle.cli_tables.specs.Tables.{rows_in, AreIn}
 use Rattle.cli_tables.specs.TableRules.{HeaderBroken, RowsBroken, has_unread, is_one_assembly}
-use Rattle.cli_tables.specs.Written.{stream_in, NoneFull, IsOverfull, AreOfOne}
-use Rattle.ccrewrite.specs.Rewrite.{no_growths, tables_of, new_metadata, KeepsRows, IsContract, PassesLimit, HasNoRoom, AnyThen, IsAssemblyRefusal, KeepsAssemblyRules}
+use Rattle.cli_tables.specs.Written.{NoneFull, AreOfOne}
+use Rattle.ccrewrite.specs.Rewrite.{no_growths, stream_of, metadata_with, tables_of, IsLimit, new_metadata, KeepsRows, IsContract, PassesLimit, HasNoRoom, AnyThen, IsAssemblyRefusal, KeepsAssemblyRules}
 
 -- ---- answers
 
@@ -38,13 +38,13 @@ OnOk-weaker (Err e) P Q f h = tt
 
 -- ---- limits
 
-none_over : (ts : List (List (List ℕ))) (tests : List Test) → NoneFull ts → NoneBroken (Fails tests) → NoneBroken (λ r. IsOverfull ts r ⊎ Fails tests r)
-none_over ts tests few none r (inl x) = omega (arith, x.1, few r.table)
-none_over ts tests few none r (inr x) = none r x
+none_over : (meta : List ℕ) (ts : List (List (List ℕ))) → NoneFull ts → NoneBroken (Fails (limit_tests meta (no_growths meta) (stream_of meta ts))) → NoneBroken (IsLimit meta ts)
+none_over meta ts few none r (inl x) = omega (arith, x.1, few r.table)
+none_over meta ts few none r (inr x) = none r x
 
-pub within : (r : Result (List ℕ) Fault) (ts : List (List (List ℕ))) (tests : List Test) → OnOk r (NoneFull ts) → OnOk r (NoneBroken (Fails tests)) → OnOk r (NoneBroken (λ x. IsOverfull ts x ⊎ Fails tests x))
-within (Ok x) ts tests few none = none_over ts tests few none
-within (Err e) ts tests few none = tt
+pub within : (r : Result (List ℕ) Fault) (meta : List ℕ) (ts : List (List (List ℕ))) → OnOk r (NoneFull ts) → OnOk r (NoneBroken (Fails (limit_tests meta (no_growths meta) (stream_of meta ts)))) → OnOk r (NoneBroken (IsLimit meta ts))
+within (Ok x) meta ts few none = none_over meta ts few none
+within (Err e) meta ts few none = tt
 
 -- ---- room
 
@@ -115,11 +115,10 @@ one_each meta ts a are none = elim (cases_Bool (is_one_assembly (root.tables met
     or_true false = refl
 
 -- the bytes that are written are those of the definition
-pub metadata_is : (bytes meta m : List ℕ) (ts : List (List (List ℕ))) → meta ≡ metadata_of bytes → ts ≡ tables_in (root.tables meta) → m ≡ written meta (parts meta (no_growths meta) (stream_in meta (no_growths meta) ts)) → m ≡ new_metadata bytes
+pub metadata_is : (bytes meta m : List ℕ) (ts : List (List (List ℕ))) → meta ≡ metadata_of bytes → ts ≡ tables_in (root.tables meta) → m ≡ metadata_with meta ts → m ≡ new_metadata bytes
 unfolding new_metadata
 metadata_is bytes meta m ts e t w =
-    w ∙ ap (λ (l : List (List (List ℕ))). written meta (parts meta (no_growths meta) (stream_in meta (no_growths meta) l))) t
-    ∙ ap (λ (x : List ℕ). written x (parts x (no_growths x) (stream_in x (no_growths x) (tables_in (root.tables x))))) e
+    w ∙ ap (λ (l : List (List (List ℕ))). metadata_with meta l) t ∙ ap (λ (x : List ℕ). metadata_with x (tables_in (root.tables x))) e
 
 pub streams_are : (bytes meta m stream : List ℕ) → meta ≡ metadata_of bytes → IsWritten meta (no_growths meta) stream m → IsWritten (metadata_of bytes) (no_growths (metadata_of bytes)) (root.tables m) m
 streams_are bytes meta m stream e w =
@@ -158,10 +157,6 @@ pub record Clean (bytes : List ℕ) : Type 0 where
   pub header : NoneBroken (HeaderBroken (metadata_of bytes) 0)
   pub rows : NoneBroken (RowsBroken (metadata_of bytes) 0)
   pub contracts : NoneBroken (IsContract (metadata_of bytes))
-
--- limits of the metadata of these tables
-abbrev pub Limits : List ℕ → List (List (List ℕ)) → Refusal → Type 0
-Limits meta ts r = IsOverfull ts r ⊎ Fails (limit_tests meta (no_growths meta) (stream_in meta (no_growths meta) ts)) r
 
 module _ (bytes meta : List ℕ) (e : meta ≡ metadata_of bytes) where
   pub clean : NoneBroken (image.Broken bytes 0) → NoneBroken (heaps.Broken meta 0) → NoneBroken (HeaderBroken meta 0) → NoneBroken (RowsBroken meta 0) → NoneBroken (IsContract meta) → Clean bytes
@@ -208,26 +203,26 @@ module _ (bytes meta : List ℕ) (e : meta ≡ metadata_of bytes) where
       )
 
   module _ (ts : List (List (List ℕ))) (t : ts ≡ tables_in (root.tables meta)) (none : Clean bytes) where
-    passes : (r : Refusal) → Limits meta ts r → PassesLimit bytes r
+    passes : (r : Refusal) → IsLimit meta ts r → PassesLimit bytes r
     passes r x =
-        subst (λ (l : List ℕ). Limits l (tables_in (root.tables l)) r) e (subst (λ (l : List (List (List ℕ))). Limits meta l r) t x)
+        subst (λ (l : List ℕ). IsLimit l (tables_in (root.tables l)) r) e (subst (λ (l : List (List (List ℕ))). IsLimit meta l r) t x)
 
-    none_passed : NoneBroken (Limits meta ts) → NoneBroken (PassesLimit bytes)
+    none_passed : NoneBroken (IsLimit meta ts) → NoneBroken (PassesLimit bytes)
     none_passed n r x =
-        n r (subst (λ (l : List (List (List ℕ))). Limits meta l r) (sym t) (subst (λ (l : List ℕ). Limits l (tables_in (root.tables l)) r) (sym e) x))
+        n r (subst (λ (l : List (List (List ℕ))). IsLimit meta l r) (sym t) (subst (λ (l : List ℕ). IsLimit l (tables_in (root.tables l)) r) (sym e) x))
 
     behind : (r : Refusal) → AnyThen (PassesLimit bytes) (HasNoRoom bytes) r → IsAssemblyRefusal bytes r
     behind r x = inr (none.image, inr (none.root, inr (none.header, inr (none.rows, inr (none.contracts, x)))))
 
-    pub refused_limits : (fault : Fault) → IfRefused fault (Limits meta ts) → IfRefused fault (IsAssemblyRefusal bytes)
-    refused_limits fault f = IfRefused-weaker fault (Limits meta ts) (IsAssemblyRefusal bytes) (λ r x. behind r (inl (passes r x))) f
+    pub refused_limits : (fault : Fault) → IfRefused fault (IsLimit meta ts) → IfRefused fault (IsAssemblyRefusal bytes)
+    refused_limits fault f = IfRefused-weaker fault (IsLimit meta ts) (IsAssemblyRefusal bytes) (λ r x. behind r (inl (passes r x))) f
 
-    pub refused_room : (result : Result (List ℕ) Fault) (m : List ℕ) → m ≡ new_metadata bytes → NoneBroken (Limits meta ts) → OnRefused result (λ r. growth_in bytes 0 (headers_of bytes) (length m) ≡ Err r) → OnRefused result (IsAssemblyRefusal bytes)
+    pub refused_room : (result : Result (List ℕ) Fault) (m : List ℕ) → m ≡ new_metadata bytes → NoneBroken (IsLimit meta ts) → OnRefused result (λ r. growth_in bytes 0 (headers_of bytes) (length m) ≡ Err r) → OnRefused result (IsAssemblyRefusal bytes)
     refused_room result m w n f =
         OnRefused-weaker result (λ r. growth_in bytes 0 (headers_of bytes) (length m) ≡ Err r) (IsAssemblyRefusal bytes)
         (λ r x. behind r (inr (none_passed n, subst (λ (l : List ℕ). growth_in bytes 0 (headers_of bytes) (length l) ≡ Err r) w x))) f
 
-    pub keeps : (result : Result (List ℕ) Fault) (m : List ℕ) → m ≡ new_metadata bytes → NoneBroken (Limits meta ts) → OnOk result (NoneBroken (λ r. growth_in bytes 0 (headers_of bytes) (length m) ≡ Err r)) → OnOk result (KeepsAssemblyRules bytes)
+    pub keeps : (result : Result (List ℕ) Fault) (m : List ℕ) → m ≡ new_metadata bytes → NoneBroken (IsLimit meta ts) → OnOk result (NoneBroken (λ r. growth_in bytes 0 (headers_of bytes) (length m) ≡ Err r)) → OnOk result (KeepsAssemblyRules bytes)
     keeps result m w n f =
         OnOk-weaker result (NoneBroken (λ r. growth_in bytes 0 (headers_of bytes) (length m) ≡ Err r)) (KeepsAssemblyRules bytes)
         (λ h. record {

@@ -29,13 +29,17 @@ no_growths meta = record { strings = no_growth (length (root.strings meta)); blo
 abbrev pub tables_of : List ℕ → List (List (List ℕ))
 tables_of bytes = tables_in (root.tables (metadata_of bytes))
 
--- the stream `#~` of the same tables
-abbrev pub new_stream : List ℕ → List ℕ
-new_stream bytes = stream_in (metadata_of bytes) (no_growths (metadata_of bytes)) (tables_of bytes)
+-- the stream `#~` of tables
+abbrev pub stream_of : List ℕ → List (List (List ℕ)) → List ℕ
+stream_of meta tables = stream_in meta (no_growths meta) tables
+
+-- the metadata of the same streams and heaps with these tables
+abbrev pub metadata_with : List ℕ → List (List (List ℕ)) → List ℕ
+metadata_with meta tables = written meta (parts meta (no_growths meta) (stream_of meta tables))
 
 -- the metadata of the same streams and tables, written anew
 unfoldable pub new_metadata : List ℕ → List ℕ
-new_metadata bytes = written (metadata_of bytes) (parts (metadata_of bytes) (no_growths (metadata_of bytes)) (new_stream bytes))
+new_metadata bytes = metadata_with (metadata_of bytes) (tables_of bytes)
 
 -- Each old row has its number and columns, and none is appended; the heaps, the version text and the other streams have the
 -- bytes that they had; the image has grown by one section that holds the metadata and nothing else.
@@ -78,9 +82,11 @@ abbrev pub contract_row : ℕ → ℕ → Refusal
 contract_row table row = record { rule = Z1; assembly = 0; table = table; row = row; at = 0 }
 
 -- a limit of what is written; any one of those that are passed may be named
+abbrev pub IsLimit : List ℕ → List (List (List ℕ)) → Refusal → Type 0
+IsLimit meta tables r = IsOverfull tables r ⊎ Fails (limit_tests meta (no_growths meta) (stream_of meta tables)) r
+
 abbrev pub PassesLimit : List ℕ → Refusal → Type 0
-PassesLimit bytes r =
-    IsOverfull (tables_of bytes) r ⊎ Fails (limit_tests (metadata_of bytes) (no_growths (metadata_of bytes)) (new_stream bytes)) r
+PassesLimit bytes r = IsLimit (metadata_of bytes) (tables_of bytes) r
 
 -- there is no room for a section more, or the image would be too long
 abbrev pub HasNoRoom : List ℕ → Refusal → Type 0

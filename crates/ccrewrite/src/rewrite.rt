@@ -1,18 +1,18 @@
 // The assembly without contracts, written anew.
-ghost use Rattle.std.specs.Prelude.{◌≡◌, ◌⊎◌, ◌<◌, ◌≤◌, ◌^◌, ℕ, true, length, Ok, Err, IfOk, OnOk};
-ghost use Rattle.cil_base.specs.Refusals.{NoneBroken, Fails, OnRefused};
+ghost use Rattle.std.specs.Prelude.{◌≡◌, ◌<◌, ◌≤◌, ◌^◌, ℕ, true, length, Ok, Err, IfOk, OnOk};
+ghost use Rattle.cil_base.specs.Refusals.{NoneBroken, OnRefused};
 ghost use Rattle.pe_image.specs.Headers.{headers_of};
 ghost use Rattle.pe_image.specs.Growth.{growth_in};
 ghost use Rattle.pe_image.specs.Written.{grown_of, KeepsBytes};
 ghost use Rattle.pe_image.specs.ReadBack.{new_rva, Grows};
 ghost use Rattle.cli_heaps.specs.Root as root;
 ghost use Rattle.cli_heaps.specs.Growth.{Growths};
-ghost use Rattle.cli_heaps.specs.Written.{parts, written, limit_tests, IsWritten};
+ghost use Rattle.cli_heaps.specs.Written.{IsWritten};
 ghost use Rattle.cli_tables.specs.Tables.{AreIn};
 ghost use Rattle.cli_tables.specs.TableRules.{HeaderBroken};
-ghost use Rattle.cli_tables.specs.Written.{sizes_to, stream_in, indexes_fit, AreOfOne, IsOverfull};
+ghost use Rattle.cli_tables.specs.Written.{sizes_to, indexes_fit, AreOfOne};
 ghost use Rattle.ccrewrite.specs.Program.{size_limit};
-ghost use Rattle.ccrewrite.specs.Rewrite.{no_growths, KeepsRows, KeepsAssemblyRules, IsAssemblyRefusal};
+ghost use Rattle.ccrewrite.specs.Rewrite.{no_growths, stream_of, metadata_with, IsLimit, KeepsRows, KeepsAssemblyRules, IsAssemblyRefusal};
 
 use crate::contract_rows::first_contract_row;
 use cil_base::{Bytes, Fault};
@@ -24,12 +24,12 @@ use std::alloc::Global;
 /// The metadata of these tables, with nothing appended to the heaps: L5.
 fn write_metadata(alloc: Global, heaps: &Heaps<'_>, tables: &Tables) -> Result<Bytes, Fault>
     requires { (g : Growths) → indexes_fit (sizes_to heaps.now.bytes g tables.now) tables.now ≡ true }
-    ensures ok { IfOk result (IsWritten heaps.now.bytes (no_growths heaps.now.bytes) (stream_in heaps.now.bytes (no_growths heaps.now.bytes) tables.now)) }
-    ensures bytes { IfOk result (λ new. new ≡ written heaps.now.bytes (parts heaps.now.bytes (no_growths heaps.now.bytes) (stream_in heaps.now.bytes (no_growths heaps.now.bytes) tables.now))) }
+    ensures ok { IfOk result (IsWritten heaps.now.bytes (no_growths heaps.now.bytes) (stream_of heaps.now.bytes tables.now)) }
+    ensures bytes { IfOk result (λ new. new ≡ metadata_with heaps.now.bytes tables.now) }
     ensures rows { IfOk result (λ new. AreIn (root.tables new) tables.now) }
     ensures header { IfOk result (λ new. AreOfOne tables.now → NoneBroken (HeaderBroken new 0)) }
-    ensures within { OnOk result (NoneBroken (λ r. IsOverfull tables.now r ⊎ Fails (limit_tests heaps.now.bytes (no_growths heaps.now.bytes) (stream_in heaps.now.bytes (no_growths heaps.now.bytes) tables.now)) r)) }
-    ensures refused { OnRefused result (λ r. IsOverfull tables.now r ⊎ Fails (limit_tests heaps.now.bytes (no_growths heaps.now.bytes) (stream_in heaps.now.bytes (no_growths heaps.now.bytes) tables.now)) r) }
+    ensures within { OnOk result (NoneBroken (IsLimit heaps.now.bytes tables.now)) }
+    ensures refused { OnRefused result (IsLimit heaps.now.bytes tables.now) }
 {
     let grown = HeapBuilder::new(alloc, heaps)?;
     tables.write(alloc, heaps, &grown)

@@ -11,8 +11,7 @@ use Rattle.pe_image.specs.ReadBack.{new_rva, Grows}
 use Rattle.cli_heaps.specs.Root as root
 use Rattle.cli_heaps.specs.RootRules as heaps
 use Rattle.cli_tables.specs.Tables.{AreIn}
-use Rattle.cli_tables.specs.Written.{stream_in}
-use Rattle.ccrewrite.specs.Rewrite.{no_growths, new_metadata}
+use Rattle.ccrewrite.specs.Rewrite.{stream_of, new_metadata}
 use Rattle.ccrewrite.proofs.RewriteLaws.{short_metadata, metadata_read, root_read, of_bytes, one_each, metadata_is, streams_are, tables_are, done, Clean, clean, refused_tables, refused_contracts, refused_limits, refused_room, keeps}
 use Rattle.ccrewrite.proofs.rewrite.rewrite_assembly.Goals as goal
 
@@ -45,7 +44,7 @@ pub returns-clause-done : goal.returns-clause-done
 returns-clause-done c =
     let e : c.in-Ok-read.heaps.bytes ≡ metadata_of c.args.bytes.now = metadata_read c.args.bytes.now c.metadata.result.now c.in-Ok.image c.in-Ok-read.heaps c.in-Ok.ensures.ok c.metadata.ensures c.in-Ok-read.ensures.ok in
     done c.place_metadata.result c.args.bytes.now c.in-Ok-write_metadata.metadata
-    (streams_are c.args.bytes.now c.in-Ok-read.heaps.bytes c.in-Ok-write_metadata.metadata (stream_in c.in-Ok-read.heaps.bytes (no_growths c.in-Ok-read.heaps.bytes) c.in-Ok-read-2.tables) e c.in-Ok-write_metadata.ensures.ok)
+    (streams_are c.args.bytes.now c.in-Ok-read.heaps.bytes c.in-Ok-write_metadata.metadata (stream_of c.in-Ok-read.heaps.bytes c.in-Ok-read-2.tables) e c.in-Ok-write_metadata.ensures.ok)
     (subst (λ (l : List (List (List ℕ))). AreIn (root.tables c.in-Ok-write_metadata.metadata) l) (tables_are c.args.bytes.now c.in-Ok-read.heaps.bytes c.in-Ok-read-2.tables e c.in-Ok-read-2.ensures.exact) c.in-Ok-write_metadata.ensures.rows)
     (c.in-Ok-write_metadata.ensures.header (one_each c.in-Ok-read.heaps.bytes c.in-Ok-read-2.tables 0 c.in-Ok-read-2.ensures.cells c.in-Ok-read-2.ensures.header))
     (of_bytes (λ b a m. IfOk c.place_metadata.result (Grows b a m (new_rva b) (length m))) c.args.bytes.now c.as_slice.result.now c.in-Ok-write_metadata.metadata c.in-Ok.image c.in-Ok.ensures.ok c.as_slice.ensures c.place_metadata.ensures.grows)

@@ -6,7 +6,6 @@ use Rattle.cli_heaps.specs.Growth.{Growths}
 use Rattle.cli_heaps.specs.Written.{parts, written, limit_tests}
 use Rattle.cli_tables.specs.TableRules.{HeaderBroken}
 use Rattle.cli_tables.specs.Written.{stream_in, AreOfOne, IsOverfull}
-use Rattle.ccrewrite.specs.Rewrite.{no_growths}
 use Rattle.ccrewrite.proofs.RewriteLaws.{within}
 use Rattle.ccrewrite.proofs.rewrite.write_metadata.Goals as goal
 
@@ -21,7 +20,7 @@ returns-clause-header c =
 
 pub returns-clause-within : goal.returns-clause-within
 returns-clause-within c =
-    within c.write.result c.args.tables.now (limit_tests c.args.heaps.now.bytes (no_growths c.args.heaps.now.bytes) (stream_in c.args.heaps.now.bytes (no_growths c.args.heaps.now.bytes) c.args.tables.now)) c.write.ensures.room
+    within c.write.result c.args.heaps.now.bytes c.args.tables.now c.write.ensures.room
     (subst (λ (g : Growths). OnOk c.write.result (NoneBroken (Fails (limit_tests c.args.heaps.now.bytes g (stream_in c.args.heaps.now.bytes g c.args.tables.now))))) c.in_ok-grown.ensures c.write.ensures.limits)
 
 pub returns-clause-refused : goal.returns-clause-refused
