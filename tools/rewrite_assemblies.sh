@@ -3,25 +3,28 @@
 # Usage: tools/rewrite_assemblies.sh PROGRAM ASSEMBLY...
 # PROGRAM is the built program (crates/ccrewrite/out/ccrewrite). It wants monodis and ikdasm
 # (Debian: mono-utils, mono-devel). One line for each assembly: its size, the status, the text, and
-# whether the two disassemblies are the same.
+# whether the two disassemblies are the same. ikdasm prints the CLI header's flags, of which that of a
+# strong name is cleared.
 program=$1
 shift
 work=$(mktemp -d)
 trap 'rm -rf "$work"' EXIT
 for assembly in "$@"; do
-    out=$work/out.dll
+    # Both stand in one folder, since monodis looks beside an assembly for those that it refers to.
+    input=$work/input.dll
+    out=$work/output.dll
+    cp "$assembly" "$input"
     rm -f "$out"
-    text=$("$program" rewrite --out "$out" "$assembly")
+    text=$("$program" rewrite --out "$out" "$input")
     status=$?
     same=-
     if [ "$status" -eq 0 ]; then
         same=same
         for tool in monodis ikdasm; do
-            $tool "$assembly" >"$work/before" 2>"$work/before.errors"
+            $tool "$input" >"$work/before" 2>/dev/null
             before=$?
-            $tool "$out" >"$work/after" 2>"$work/after.errors"
+            $tool "$out" >"$work/after" 2>/dev/null
             after=$?
-            # The file's own name and the RVA of nothing that stayed may be printed.
             if [ $before -ne $after ] || ! cmp -s "$work/before" "$work/after"; then
                 same="$tool differs"
             fi
