@@ -1,7 +1,4 @@
 // Assemblies that are made and read.
-ghost use Rattle.std.specs.Prelude.{◌≡◌, false};
-ghost use Rattle.std.specs.List.{list_any};
-ghost use Rattle.cli_heaps.specs.Root.{is_zero};
 
 use crate::Builder;
 use cil_base::{Bytes, Fault, Token};
@@ -10,16 +7,29 @@ use cli_tables::Tables;
 use pe_image::Image;
 use std::alloc::Global;
 
-/// Module, `<Module>` and Assembly rows.
 #[tactic(auto, unfolding(cli_tables::specs::Schema::the_tables))]
-fn empty_assembly(alloc: Global) -> Result<Builder, Fault> {
-    let mut builder = Builder::new(alloc)?;
+fn add_module(builder: &mut Builder, name: u32) -> Result<u32, Fault> {
+    builder.row(0x00, &[0, name, 1, 0, 0])
+}
+
+#[tactic(auto, unfolding(cli_tables::specs::Schema::the_tables))]
+fn add_type(builder: &mut Builder, name: u32) -> Result<u32, Fault> {
+    builder.row(0x02, &[0, name, 0, 0, 1, 1])
+}
+
+#[tactic(auto, unfolding(cli_tables::specs::Schema::the_tables))]
+fn add_assembly(builder: &mut Builder, name: u32) -> Result<u32, Fault> {
+    builder.row(0x20, &[0x8004, 1, 0, 0, 0, 0, 0, name, 0])
+}
+
+/// Module, `<Module>` and Assembly rows.
+fn add_rows(builder: &mut Builder) -> Result<(), Fault> {
     let name = builder.string(b"empty")?;
     let module = builder.string(b"<Module>")?;
-    builder.row(0x00, &[0, name, 1, 0, 0])?;
-    builder.row(0x02, &[0, module, 0, 0, 1, 1])?;
-    builder.row(0x20, &[0x8004, 1, 0, 0, 0, 0, 0, name, 0])?;
-    Ok(builder)
+    add_module(builder, name)?;
+    add_type(builder, module)?;
+    add_assembly(builder, name)?;
+    Ok(())
 }
 
 /// The finished assembly; none where an index doesn't fit.
@@ -30,16 +40,12 @@ fn finished(alloc: Global, builder: Builder) -> Result<Option<Bytes>, Fault> {
     Ok(Some(builder.finish(alloc)?))
 }
 
-/// Whether an assembly of three rows stands in the bytes, with a `#~` of 84 bytes, and the code at its RVA.
-fn is_read(alloc: Global, bytes: &[u8], code: &[u8], entry: u32) -> bool {
-    if bytes.len() != 0x800 {
+/// Whether the metadata are those of the three rows, with a `#~` of 84 bytes.
+fn are_read(alloc: Global, metadata: &[u8]) -> bool {
+    if metadata.len() > u32::MAX as usize {
         return false;
     }
-    let image = match Image::read(bytes, 0) {
-        Ok(image) => image,
-        Err(_) => return false,
-    };
-    let heaps = match Heaps::read(image.metadata(), 0) {
+    let heaps = match Heaps::read(metadata, 0) {
         Ok(heaps) => heaps,
         Err(_) => return false,
     };
@@ -53,15 +59,33 @@ fn is_read(alloc: Global, bytes: &[u8], code: &[u8], entry: u32) -> bool {
         && heaps.guid(1) == Some(&b"ccrewrite sample"[..])
         && tables.cell(0x02, 1, 1) == Some(7)
         && tables.cell(0x20, 1, 7) == Some(1)
-        && image.at_rva(0x2048, code.len() as u32) == Some(code)
-        && image.cli().entry == entry
+}
+
+/// Whether the image has the code and the entry point, and these metadata.
+fn is_read(alloc: Global, bytes: &[u8]) -> bool {
+    if bytes.len() != 0x800 {
+        return false;
+    }
+    match Image::read(bytes, 0) {
+        Err(_) => false,
+        Ok(image) => {
+            image.at_rva(0x2048, 3) == Some(&[0x0A, 0x1D, 0x2A][..])
+                && image.cli().entry == 0x0600_0001
+                && are_read(alloc, image.metadata())
+        }
+    }
 }
 
 #[test]
-fn an_empty_assembly_is_read(rt: HostRuntime) -> Result<(), Fault> {
+fn an_assembly_is_made_and_read(rt: HostRuntime) -> Result<(), Fault> {
     let alloc = rt.alloc();
-    match finished(alloc, empty_assembly(alloc)?)? {
-        Some(bytes) => assert!(rt; is_read(alloc, bytes.as_slice(), &[], 0)),
+    let mut builder = Builder::new(alloc)?;
+    add_rows(&mut builder)?;
+    let rva = builder.code(&[0x0A, 0x1D, 0x2A])?;
+    assert!(rt; rva == 0x2048);
+    builder.entry(Token { table: 6, row: 1 });
+    match finished(alloc, builder)? {
+        Some(bytes) => assert!(rt; is_read(alloc, bytes.as_slice())),
         None => assert!(rt; false, "an index doesn't fit"),
     }
     Ok(())

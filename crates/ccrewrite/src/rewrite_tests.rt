@@ -15,21 +15,48 @@ const METADATA: usize = 0x248;
 
 const TABLES: usize = METADATA + 108;
 
-/// The bytes of an assembly of Module, `<Module>` and Assembly rows, and where one is wanted, of a class
-/// with a method; none where an index doesn't fit.
 #[tactic(auto, unfolding(cli_tables::specs::Schema::the_tables))]
-fn sample(alloc: Global, with_class: bool) -> Result<Vec<u8>, Fault> {
-    let mut builder = Builder::new(alloc)?;
-    let name = builder.string(b"a")?;
-    let module = builder.string(b"<Module>")?;
-    builder.row(0x00, &[0, name, 1, 0, 0])?;
-    builder.row(0x02, &[0, module, 0, 0, 1, 1])?;
-    if with_class {
-        let signature = builder.blob(&[0, 0, 1])?;
-        builder.row(0x02, &[1, name, 0, 0, 1, 1])?;
-        builder.row(0x06, &[0, 0, 0x416, name, signature, 1])?;
-    }
-    builder.row(0x20, &[0x8004, 1, 0, 0, 0, 0, 0, name, 0])?;
+fn add_module(builder: &mut Builder, name: u32) -> Result<u32, Fault> {
+    builder.row(0x00, &[0, name, 1, 0, 0])
+}
+
+#[tactic(auto, unfolding(cli_tables::specs::Schema::the_tables))]
+fn add_type_ref(builder: &mut Builder, name: u32, namespace: u32) -> Result<u32, Fault> {
+    builder.row(0x01, &[0, name, namespace])
+}
+
+#[tactic(auto, unfolding(cli_tables::specs::Schema::the_tables))]
+fn add_type(builder: &mut Builder, name: u32) -> Result<u32, Fault> {
+    builder.row(0x02, &[0, name, 0, 0, 1, 1])
+}
+
+#[tactic(auto, unfolding(cli_tables::specs::Schema::the_tables))]
+fn add_method(builder: &mut Builder, name: u32, signature: u32) -> Result<u32, Fault> {
+    builder.row(0x06, &[0, 0, 0x416, name, signature, 1])
+}
+
+#[tactic(auto, unfolding(cli_tables::specs::Schema::the_tables))]
+fn add_assembly(builder: &mut Builder, name: u32) -> Result<u32, Fault> {
+    builder.row(0x20, &[0x8004, 1, 0, 0, 0, 0, 0, name, 0])
+}
+
+/// A class with a method.
+fn add_class(builder: &mut Builder, name: u32) -> Result<u32, Fault> {
+    let signature = builder.blob(&[0, 0, 1])?;
+    add_type(builder, name)?;
+    add_method(builder, name, signature)
+}
+
+/// A reference to the class `Contract`, behind another one.
+fn add_contract(builder: &mut Builder, name: u32) -> Result<u32, Fault> {
+    let contract = builder.string(b"Contract")?;
+    let namespace = builder.string(b"System.Diagnostics.Contracts")?;
+    add_type_ref(builder, name, name)?;
+    add_type_ref(builder, contract, namespace)
+}
+
+/// The finished assembly; no bytes where an index doesn't fit.
+fn finished(alloc: Global, builder: Builder) -> Result<Vec<u8>, Fault> {
     if !builder.fits() {
         return Ok(Vec::new(alloc));
     }
@@ -37,23 +64,46 @@ fn sample(alloc: Global, with_class: bool) -> Result<Vec<u8>, Fault> {
     Ok(Vec::from_slice(alloc, bytes.as_slice())?)
 }
 
-/// An assembly that has a TypeRef row of the namespace of Code Contracts.
-#[tactic(auto, unfolding(cli_tables::specs::Schema::the_tables))]
-fn with_contracts(alloc: Global) -> Result<Vec<u8>, Fault> {
-    let mut builder = Builder::new(alloc)?;
+/// Module, `<Module>` and Assembly rows; their name.
+fn add_rows(builder: &mut Builder) -> Result<u32, Fault> {
     let name = builder.string(b"a")?;
-    let contract = builder.string(b"Contract")?;
-    let namespace = builder.string(b"System.Diagnostics.Contracts")?;
-    builder.row(0x00, &[0, name, 1, 0, 0])?;
-    builder.row(0x01, &[0, name, name])?;
-    builder.row(0x01, &[0, contract, namespace])?;
-    builder.row(0x02, &[0, name, 0, 0, 1, 1])?;
-    builder.row(0x20, &[0x8004, 1, 0, 0, 0, 0, 0, name, 0])?;
-    if !builder.fits() {
-        return Ok(Vec::new(alloc));
+    let module = builder.string(b"<Module>")?;
+    add_module(builder, name)?;
+    add_type(builder, module)?;
+    add_assembly(builder, name)?;
+    Ok(name)
+}
+
+/// Rows, and where it is wanted a class with a method or a row of the namespace of Code Contracts.
+fn add_all(builder: &mut Builder, with_class: bool, with_contract: bool) -> Result<(), Fault> {
+    let name = add_rows(builder)?;
+    if with_class {
+        add_class(builder, name)?;
     }
-    let bytes = builder.finish(alloc)?;
-    Ok(Vec::from_slice(alloc, bytes.as_slice())?)
+    if with_contract {
+        add_contract(builder, name)?;
+    }
+    Ok(())
+}
+
+fn made(alloc: Global, with_class: bool, with_contract: bool) -> Result<Vec<u8>, Fault> {
+    let mut builder = Builder::new(alloc)?;
+    add_all(&mut builder, with_class, with_contract)?;
+    finished(alloc, builder)
+}
+
+/// The bytes of an assembly of three rows, and where one is wanted, of a class with a method.
+fn sample(alloc: Global, with_class: bool) -> Result<Vec<u8>, Fault> {
+    made(alloc, with_class, false)
+}
+
+/// The tables of metadata; none where they break a rule.
+fn tables_in(alloc: Global, metadata: &[u8]) -> Option<Tables> {
+    if metadata.len() > u32::MAX as usize {
+        return None;
+    }
+    let heaps = Heaps::read(metadata, 0).ok()?;
+    Tables::read(alloc, &heaps, 0).ok()
 }
 
 /// The tables of an assembly; none where it breaks a rule.
@@ -62,8 +112,7 @@ fn tables_of(alloc: Global, bytes: &[u8]) -> Option<Tables> {
         return None;
     }
     let image = Image::read(bytes, 0).ok()?;
-    let heaps = Heaps::read(image.metadata(), 0).ok()?;
-    Tables::read(alloc, &heaps, 0).ok()
+    tables_in(alloc, image.metadata())
 }
 
 /// Whether the two assemblies have the same rows, and the second stands in a larger image.
@@ -133,7 +182,7 @@ fn the_rows_are_kept(rt: HostRuntime) -> Result<(), Fault> {
 #[test]
 fn an_assembly_with_contracts_waits(rt: HostRuntime) -> Result<(), Fault> {
     let alloc = rt.alloc();
-    let bytes = with_contracts(alloc)?;
+    let bytes = made(alloc, false, true)?;
     let text = b"refused: Z1 assembly 0 table 01 row 2 at 0\n";
     let refused = rewrite_answers(alloc, &bytes, "out", (None, None), (1, text, false))?;
     assert!(rt; refused);
