@@ -1,5 +1,5 @@
 // A body of many instructions, decoded and encoded again and again.
-ghost use Rattle.std.specs.Prelude.{◌<◌, ◌^◌, length, IfOk};
+ghost use Rattle.std.specs.Prelude.{◌≡◌, ◌+◌, ◌*◌, ◌<◌, ◌^◌, length, IfOk, OnOk};
 ghost use Rattle.il_body.specs.BodyEncoding.{IsValid};
 
 use cil_base::{Fault, Place};
@@ -8,7 +8,9 @@ use il_body::{decode_body, encode_body, read_is_valid};
 use std::alloc::{AllocError, Global};
 
 /// A fat header over so many bytes of code, with a stack of 8 (ECMA-335, II.25.4.3).
-fn push_header(bytes: &mut Vec<u8>, size: u32) -> Result<(), AllocError> {
+fn push_header(bytes: &mut Vec<u8>, size: u32) -> Result<(), AllocError>
+    ensures { OnOk result (length bytes.new.items ≡ length bytes.old.items + 12) }
+{
     bytes.extend_from_slice(&[3, 0x30, 8, 0])?;
     bytes.extend_from_slice(&size.to_le_bytes())?;
     bytes.extend_from_slice(&[0; 4])
@@ -16,7 +18,9 @@ fn push_header(bytes: &mut Vec<u8>, size: u32) -> Result<(), AllocError> {
 
 /// A body of four times so many instructions and one more: numbers are pushed, jumped over nothing
 /// with and taken away.
-fn bytes_of(alloc: Global, fours: u32) -> Result<Vec<u8>, AllocError> {
+fn bytes_of(alloc: Global, fours: u32) -> Result<Vec<u8>, AllocError>
+    ensures { IfOk result (λ v. length v.items ≡ 13 + 12 * fours) }
+{
     let mut bytes = Vec::new(alloc);
     push_header(&mut bytes, fours.wrapping_mul(12).wrapping_add(1))?;
     for _k in 0..fours {
