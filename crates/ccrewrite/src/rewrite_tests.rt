@@ -266,11 +266,13 @@ fn every_cut_image_is_refused(rt: HostRuntime) -> Result<(), Fault> {
     assert!(rt; bytes.len() == 0x800);
     let mut len = 0;
     for (end, text) in CUTS {
-        while len < end && len < bytes.len() {
-            let refused = is_refused(alloc, &bytes[..len], text)?;
-            assert!(rt; refused);
-            len += 1;
+        for shorter in len..end {
+            if shorter < bytes.len() {
+                let refused = is_refused(alloc, &bytes[..shorter], text)?;
+                assert!(rt; refused);
+            }
         }
+        len = end;
     }
     Ok(())
 }
