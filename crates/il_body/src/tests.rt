@@ -128,6 +128,40 @@ fn bodies_of_the_account_are_written(rt: HostRuntime) {
     assert!(rt; is_written_with_locals(alloc, &take, 4, &written));
 }
 
+/// Whether a body is read, and written as it was.
+fn is_kept(alloc: Global, bytes: &[u8]) -> bool
+    requires { length bytes.now < 2 ^ 32 }
+{
+    match read(alloc, bytes) {
+        None => false,
+        Some(body) => is_written(alloc, &body, bytes),
+    }
+}
+
+#[test]
+fn the_other_bodies_of_the_account_are_written(rt: HostRuntime) {
+    let alloc = rt.alloc();
+    let constructor = [
+        0x76, 0x02, 0x28, 1, 0, 0, 0x0A, 0x00, 0x00, 0x03, 0x16, 0xFE, 0x04, 0x16, 0xFE, 0x01,
+        0x28, 3, 0, 0, 0x0A, 0x00, 0x02, 0x03, 0x7D, 1, 0, 0, 4, 0x2A,
+    ];
+    assert!(rt; is_kept(alloc, &constructor));
+    let invariant = [
+        0x52, 0x00, 0x02, 0x7B, 1, 0, 0, 4, 0x16, 0xFE, 0x04, 0x16, 0xFE, 0x01, 0x28, 5, 0, 0,
+        0x0A, 0x00, 0x2A,
+    ];
+    assert!(rt; is_kept(alloc, &invariant));
+    let bad = [
+        0x52, 0x00, 0x1F, 10, 0x73, 1, 0, 0, 6, 0x1F, 40, 0x28, 2, 0, 0, 6, 0x0A, 0x2B, 0, 0x06,
+        0x2A,
+    ];
+    let written = [
+        0x13, 0x30, 2, 0, 23, 0, 0, 0, 1, 0, 0, 0x11, 0x00, 0x1F, 10, 0x73, 1, 0, 0, 6, 0x1F, 40,
+        0x28, 2, 0, 0, 6, 0x0A, 0x38, 0, 0, 0, 0, 0x06, 0x2A,
+    ];
+    assert!(rt; is_written_with_locals(alloc, &bad, 2, &written));
+}
+
 /// A finally and a catch up to the code's end, both around the first of five instructions.
 fn with_regions(alloc: Global, mut body: Body) -> Option<Body>
     requires { IsValid 0 body }
