@@ -13,4 +13,4 @@ pub mod SetLaws
 pub mod BlankLaws
 pub mod PieceLaws
 pub mod WrittenLaws
-pub mod KeptFitLaws
+pub mod WidthLaws

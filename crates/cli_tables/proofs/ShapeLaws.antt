@@ -165,12 +165,12 @@ cells_match ts bytes many none here t (suc k) c =
         ap (λ (l : List ℕ). slice_get l k) (none t c out)
         ∙ no_col (leb 1 (suc k)) (leb (suc k) (rows_in bytes t)) (ltb c (length (columns_of t))) (cell bytes t (suc k) c) (le-ltb c (length (columns_of t)) out)
 
-pub number_read : (bytes : List ℕ) (t c k : ℕ) → c < length (columns_of t) → k < rows_in bytes t → get_or (column_of (tables_in bytes) t c) k 0 ≡ cell bytes t (k + 1) c
-number_read bytes t c k lt below =
+pub cell_in_table : (bytes : List ℕ) (t c k : ℕ) → c < length (columns_of t) → k < rows_in bytes t → get_or (column_of (tables_in bytes) t c) k 0 ≡ cell bytes t (k + 1) c
+cell_in_table bytes t c k lt below =
     ap (λ (cs : List (List ℕ)). get_or (get_or cs c []) k 0) (table_at bytes t (is_read t c lt)) ∙ cell_read bytes (table_start bytes t) t (rows_in bytes t) c k lt below refl
 
 cells_in : (bytes : List ℕ) (t r c : ℕ) → cell_of (tables_in bytes) t r c ≡ cell_at bytes t r c
-cells_in bytes = cells_match (tables_in bytes) bytes (rows_read bytes) (no_column bytes) (number_read bytes)
+cells_in bytes = cells_match (tables_in bytes) bytes (rows_read bytes) (no_column bytes) (cell_in_table bytes)
 
 pub are_in : (bytes : List ℕ) (offset a : ℕ) → NoneBroken (Fails (header_tests bytes offset a)) → AreIn bytes (tables_in bytes)
 are_in bytes offset a none = record {

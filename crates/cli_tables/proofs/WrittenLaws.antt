@@ -362,7 +362,7 @@ some_power zero = omega arith
 some_power (suc w) = omega (arith, some_power w, pow-suc 256 w)
 
 -- behind the end there is no number
-past_fits : (s : Sizes) (ts : List (List (List ℕ))) (t c k : ℕ) → length (column_of ts t c) ≤ k → get_or (column_of ts t c) k 0 < 256 ^ width_of s (kind_of t c)
+pub past_fits : (s : Sizes) (ts : List (List (List ℕ))) (t c k : ℕ) → length (column_of ts t c) ≤ k → get_or (column_of ts t c) k 0 < 256 ^ width_of s (kind_of t c)
 past_fits s ts t c k past = omega (arith, get_or_past (column_of ts t c) k 0 past, some_power (width_of s (kind_of t c)))
 
 here_fits : (s : Sizes) (ts : List (List (List ℕ))) (t c k : ℕ) → column_fits s ts t c ≡ true → k < length (column_of ts t c) → get_or (column_of ts t c) k 0 < limit_of (kind_of t c) → get_or (column_of ts t c) k 0 < 256 ^ width_of s (kind_of t c)

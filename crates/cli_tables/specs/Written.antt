@@ -122,6 +122,22 @@ table_fits sizes tables table = list_all (column_fits sizes tables table) (range
 unfoldable pub indexes_fit : Sizes → List (List (List ℕ)) → Bool
 indexes_fit sizes tables = list_all (table_fits sizes tables) (range_with_len 0 45)
 
+-- ---- what keeps that so
+
+-- a cell of a row to be appended fits, if it is an index
+abbrev pub cell_fits : Sizes → ℕ → List ℕ → ℕ → Bool
+cell_fits sizes table row column = not (is_index (kind_of table column)) || nat_lt (get_or row column 0) (256 ^ width_of sizes (kind_of table column))
+
+abbrev pub row_fits : Sizes → ℕ → List ℕ → Bool
+row_fits sizes table row = list_all (cell_fits sizes table row) (range_with_len 0 (length (columns_of table)))
+
+-- no table has fewer rows, and a heap that was large is large still
+pub record Grows (old new : Sizes) : Type 0 where
+  pub counts : (table : ℕ) → count_of old table ≤ count_of new table
+  pub strings : old.wide_strings ≡ true → new.wide_strings ≡ true
+  pub guids : old.wide_guids ≡ true → new.wide_guids ≡ true
+  pub blobs : old.wide_blobs ≡ true → new.wide_blobs ≡ true
+
 -- no table has more rows than a written one may have
 abbrev pub NoneFull : List (List (List ℕ)) → Type 0
 NoneFull tables = (table : ℕ) → rows_of tables table ≤ 2 ^ 24 - 1

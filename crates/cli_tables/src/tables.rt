@@ -1,8 +1,8 @@
 // The tables of an assembly (ECMA-335, II.22).
 ghost use Rattle.std.specs.Prelude.{◌≡◌, ◌⊎◌, ℕ, ◌+◌, ◌-◌, ◌<◌, ◌≤◌, ◌^◌, ◌++◌, ◌↔◌, length, map, IsSome, MatchOption, IfOk, OnOk, OnErr, true};
 ghost use Rattle.cil_base.specs.Refusals.{First, NoneBroken, InTurn, Fails, OnRefused};
-ghost use Rattle.cli_heaps.specs.Root.{tables};
 ghost use Rattle.cli_heaps.specs.Growth.{Growths};
+ghost use Rattle.cli_heaps.specs.Root.{tables};
 ghost use Rattle.cli_tables.specs.TableRules.{HeaderBroken, RowsBroken};
 ghost use Rattle.lane_cols.specs.Places.{places};
 ghost use Rattle.cli_tables.specs.Schema.{columns_of};
@@ -10,7 +10,8 @@ ghost use Rattle.cli_tables.specs.Tables.{column_of, rows_of, cell_of, HasCell, 
 ghost use Rattle.cli_tables.specs.Stream.{kind_of};
 ghost use Rattle.cli_tables.specs.Layout.{tables_in};
 ghost use Rattle.cli_tables.specs.Growth.{table_full};
-ghost use Rattle.cli_tables.specs.Written.{counts_to, is_many, sizes_to, stream_in, column_fits, table_fits, indexes_fit, NoneFull, IsOverfull, AreOfOne, Holds};
+ghost use Rattle.cli_tables.specs.declared.sizes.Sizes.{Sizes};
+ghost use Rattle.cli_tables.specs.Written.{counts_to, is_many, sizes_to, stream_in, column_fits, table_fits, indexes_fit, row_fits, Grows, NoneFull, IsOverfull, AreOfOne, Holds};
 ghost use Rattle.cli_heaps.specs.Written.{filled, parts, written, GrewFrom, IsWritten, EntriesRead, limit_tests};
 
 use crate::header::first_in_header;
@@ -50,10 +51,10 @@ impl Tables {
         ensures cells { IfOk result (AreIn (tables heaps.now.bytes)) }
         ensures exact { IfOk result (λ t. t ≡ tables_in (tables heaps.now.bytes)) }
         ensures shaped { IfOk result IsShaped }
+        // They can be written again, whatever is added to the heaps.
+        ensures writable { IfOk result (λ ts. (grown : Growths) → indexes_fit (sizes_to heaps.now.bytes grown ts) ts ≡ true) }
         ensures header { OnOk result (NoneBroken (HeaderBroken heaps.now.bytes assembly)) }
         ensures accepted { OnOk result (NoneBroken (RowsBroken heaps.now.bytes assembly)) }
-        // They meet the condition of `write`, whatever is appended to the heaps.
-        ensures fit { IfOk result (λ t. (g : Growths) → indexes_fit (sizes_to heaps.now.bytes g t) t ≡ true) }
         ensures refused { OnRefused result (InTurn (HeaderBroken heaps.now.bytes assembly) (First (RowsBroken heaps.now.bytes assembly))) }
     {
         let stream = heaps.tables();
@@ -136,6 +137,7 @@ impl Tables {
         ensures row { IfOk result (λ row. row ≡ rows_of self.old table + 1) }
         ensures appended { OnOk result (IsAppended self.old table cells.now self.new) }
         ensures room { OnOk result (rows_of self.old table < 2 ^ 24 - 1) }
+        ensures writable { OnOk result ((old new : Sizes) → Grows old new → indexes_fit old self.old ≡ true → row_fits new table cells.now ≡ true → indexes_fit new self.new ≡ true) }
         ensures full { OnRefused result (λ r. (r ≡ table_full table) × (2 ^ 24 - 1 ≤ rows_of self.old table)) }
         ensures err { OnErr result (self.new ≡ self.old) }
     {
@@ -242,8 +244,9 @@ impl Tables {
     fn written_sizes(&self, heaps: &Heaps<'_>, grown: &HeapBuilder) -> Sizes
         ensures { result ≡ sizes_to heaps.now.bytes grown.now self.now }
     {
+        let counts = self.counts();
         Sizes {
-            counts: self.counts(),
+            counts,
             wide_strings: is_large(heaps.strings(), grown.strings_added()),
             wide_guids: heaps.guids().len() / 16 > MOST_PLACES,
             wide_blobs: is_large(heaps.blobs(), grown.blobs_added()),

@@ -72,34 +72,31 @@ fn each_rule_is_named_at_its_place(rt: HostRuntime) -> Result<(), AllocError> {
     Ok(())
 }
 
-#[test]
-fn cells_are_read(rt: HostRuntime) -> Result<(), AllocError> {
-    if let Ok(heaps) = Heaps::read(&META, 0) {
-        match Tables::read(rt.alloc(), &heaps, 0) {
-            Ok(tables) => {
-                assert_eq!(rt; (tables.rows(0), tables.rows(2), tables.rows(3)), (1, 2, 0));
-                assert_eq!(rt; tables.cell(2, 2, 1), Some(4));
-                assert_eq!(rt; tables.cell(6, 1, 0), Some(0x2050));
-                assert_eq!(rt; tables.cell(0x20, 1, 0), Some(0x8004));
-                assert_eq!(rt; tables.cell(0x20, 1, 4), Some(4));
-                assert_eq!(rt; tables.cell(2, 0, 0), None);
-                assert_eq!(rt; tables.cell(2, 3, 0), None);
-                assert_eq!(rt; tables.cell(2, 1, 6), None);
-                assert_eq!(rt; tables.cell(1, 1, 0), None);
-                return Ok(());
-            }
-            Err(_) => {}
-        }
+fn sample() -> Result<Heaps<'static>, Fault> {
+    match Heaps::read(&META, 0) {
+        Ok(heaps) => Ok(heaps),
+        Err(refusal) => Err(Fault::Refused(refusal)),
     }
-    assert!(rt; false);
-    Ok(())
 }
 
 fn read(alloc: Global) -> Result<Tables, Fault> {
-    match Heaps::read(&META, 0) {
-        Ok(heaps) => Tables::read(alloc, &heaps, 0),
-        Err(refusal) => Err(Fault::Refused(refusal)),
-    }
+    let heaps = sample()?;
+    Tables::read(alloc, &heaps, 0)
+}
+
+#[test]
+fn cells_are_read(rt: HostRuntime) -> Result<(), Fault> {
+    let tables = read(rt.alloc())?;
+    assert_eq!(rt; (tables.rows(0), tables.rows(2), tables.rows(3)), (1, 2, 0));
+    assert_eq!(rt; tables.cell(2, 2, 1), Some(4));
+    assert_eq!(rt; tables.cell(6, 1, 0), Some(0x2050));
+    assert_eq!(rt; tables.cell(0x20, 1, 0), Some(0x8004));
+    assert_eq!(rt; tables.cell(0x20, 1, 4), Some(4));
+    assert_eq!(rt; tables.cell(2, 0, 0), None);
+    assert_eq!(rt; tables.cell(2, 3, 0), None);
+    assert_eq!(rt; tables.cell(2, 1, 6), None);
+    assert_eq!(rt; tables.cell(1, 1, 0), None);
+    Ok(())
 }
 
 #[test]
@@ -158,17 +155,13 @@ fn with_rows(alloc: Global, heaps: &Heaps<'_>, rows: u32) -> Result<Tables, Faul
 fn written(alloc: Global, rows: u32) -> Result<Option<Bytes>, Fault>
     requires { rows < 2 ^ 20 }
 {
-    match Heaps::read(&META, 0) {
-        Err(refusal) => Err(Fault::Refused(refusal)),
-        Ok(heaps) => {
-            let tables = with_rows(alloc, &heaps, rows)?;
-            let grown = HeapBuilder::new(alloc, &heaps)?;
-            if !tables.fits(&heaps, &grown) {
-                return Ok(None);
-            }
-            Ok(Some(tables.write(alloc, &heaps, &grown)?))
-        }
+    let heaps = sample()?;
+    let tables = with_rows(alloc, &heaps, rows)?;
+    let grown = HeapBuilder::new(alloc, &heaps)?;
+    if !tables.fits(&heaps, &grown) {
+        return Ok(None);
     }
+    Ok(Some(tables.write(alloc, &heaps, &grown)?))
 }
 
 /// Whether the metadata has a stream of tables of this length, and the rows read back.
@@ -208,14 +201,13 @@ fn many_rows_widen_the_indexes_that_name_them(rt: HostRuntime) -> Result<(), Fau
 #[test]
 #[tactic(auto, unfolding(crate::specs::Schema::the_tables))]
 fn an_index_past_its_width_is_told(rt: HostRuntime) -> Result<(), Fault> {
-    if let Ok(heaps) = Heaps::read(&META, 0) {
-        let mut tables = Tables::read(rt.alloc(), &heaps, 0)?;
-        let grown = HeapBuilder::new(rt.alloc(), &heaps)?;
-        assert!(rt; tables.fits(&heaps, &grown));
-        if tables.cell(2, 1, 4).is_some() {
-            tables.set(2, 1, 4, 0x1_0000);
-        }
-        assert!(rt; !tables.fits(&heaps, &grown));
+    let heaps = sample()?;
+    let mut tables = Tables::read(rt.alloc(), &heaps, 0)?;
+    let grown = HeapBuilder::new(rt.alloc(), &heaps)?;
+    assert!(rt; tables.fits(&heaps, &grown));
+    if tables.cell(2, 1, 4).is_some() {
+        tables.set(2, 1, 4, 0x1_0000);
     }
+    assert!(rt; !tables.fits(&heaps, &grown));
     Ok(())
 }
