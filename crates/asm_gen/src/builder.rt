@@ -1,7 +1,7 @@
 // An assembly that is made row by row.
 ghost use Rattle.std.specs.Prelude.{◌≡◌, ◌+◌, ◌-◌, ◌%◌, ◌<◌, ◌≤◌, ◌^◌, ◌++◌, ◌⊎◌, ℕ, true, false, length, Ok, Some, IfOk, OnOk, OnErr};
 ghost use Rattle.std.specs.List.{list_any};
-ghost use Rattle.cil_base.specs.Refusals.{OnRefused};
+ghost use Rattle.cil_base.specs.Refusals.{NoneBroken, OnRefused};
 ghost use Rattle.cil_base.specs.Tokens.{token_number};
 ghost use Rattle.cli_heaps.specs.Root.{is_zero};
 ghost use Rattle.cli_heaps.specs.Entries.{string_at, blob_at};
@@ -9,7 +9,8 @@ ghost use Rattle.cli_heaps.specs.Growth.{Appends, IsFull, ReadsAt, string_entry,
 ghost use Rattle.cli_tables.specs.Tables.{rows_of, IsRow, IsAppended};
 ghost use Rattle.cli_tables.specs.Growth.{table_full};
 ghost use Rattle.pe_image.specs.Growth.{too_long};
-ghost use Rattle.asm_gen.specs.Layout.{code_address};
+ghost use Rattle.pe_image.specs.Cli.{metadata_of};
+ghost use Rattle.asm_gen.specs.Layout.{code_address, file_size};
 ghost use Rattle.cli_tables.specs.Written.{sizes_to, indexes_fit};
 ghost use Rattle.asm_gen.specs.Blank.{blank};
 ghost use Rattle.asm_gen.specs.Samples.{blank_sample, filled, HoldsRows, IsAssembly, PassesLimit, IsTooLong};
@@ -77,6 +78,7 @@ impl Builder {
         ensures row { IfOk result (λ row. row ≡ rows_of self.old.tables table + 1) }
         ensures appended { OnOk result (IsAppended self.old.tables table cells.now self.new.tables) }
         ensures others { self.new ≡ record self.old { tables = self.new.tables } }
+        ensures room { OnOk result (rows_of self.old.tables table < 2 ^ 24 - 1) }
         ensures refused { OnRefused result (λ r. (r ≡ table_full table) × (2 ^ 24 - 1 ≤ rows_of self.old.tables table)) }
         ensures unchanged { OnErr result (self.new ≡ self.old) }
     {
@@ -158,6 +160,7 @@ impl Builder {
     fn metadata(&self, alloc: Global) -> Result<Bytes, Fault>
         requires { indexes_fit (sizes_to blank self.now.heaps self.now.tables) self.now.tables ≡ true }
         ensures ok { IfOk result (HoldsRows self.now) }
+        ensures within { OnOk result (NoneBroken (PassesLimit self.now)) }
         ensures refused { OnRefused result (PassesLimit self.now) }
     {
         self.tables.write(alloc, &blank_heaps(), &self.heaps)
@@ -168,6 +171,8 @@ impl Builder {
     pub fn finish(self, alloc: Global) -> Result<Bytes, Fault>
         requires { indexes_fit (sizes_to blank self.heaps self.tables) self.tables ≡ true }
         ensures ok { IfOk result (IsAssembly self) }
+        ensures within { OnOk result (NoneBroken (PassesLimit self)) }
+        ensures short { IfOk result (λ bytes. file_size (length self.code + length (metadata_of bytes)) ≤ 2 ^ 27) }
         ensures refused { OnRefused result (λ r. PassesLimit self r ⊎ IsTooLong self r) }
     {
         match self.metadata(alloc) {

@@ -312,6 +312,7 @@ fn image_bytes(alloc: Global, code: &[u8], metadata: &[u8], entry: u32) -> Resul
 /// over 128 MiB.
 pub fn image(alloc: Global, code: &[u8], metadata: &[u8], entry: u32) -> Result<Bytes, Fault>
     ensures reads { IfOk result (IsImageOf code.now metadata.now entry) }
+    ensures short { OnOk result (file_size (length code.now + length metadata.now) ≤ 2 ^ 27) }
     ensures refused { OnRefused result (λ r. (r ≡ too_long) × (2 ^ 27 < file_size (length code.now + length metadata.now))) }
 {
     image_bytes(alloc, code, metadata, entry)
