@@ -2,19 +2,16 @@
 use Rattle.std.proofs.Common.{◌≡◌, ℕ, ◌≤◌, Bool, true, false, cond, ltb, eqb, ◌||◌, ◌&&◌, List, [], ◌∷◌, Option, Some, None, refl, sym, ap, subst, ◌∙◌, inl, inr, arith, Result, Ok, Err}
 use Rattle.std.specs.Prelude.{MatchOption}
 use Rattle.std.proofs.lemmas.Bool.{ltb-false, le-ltb, eqb-true}
+use Rattle.cil_base.proofs.Small.{or_neither}
 use Rattle.cil_base.specs.declared.refusal.Refusal.{Refusal}
 use Rattle.cil_base.specs.declared.refusal.Fault.{Fault}
 use Rattle.cil_base.specs.declared.refusal.Fault.TheVariants.{Refused, Memory}
-use Rattle.cil_base.specs.Refusals.{key, is_less, First, Test, Fails, first_of, IfRefused, OnRefused}
-
-or_false : (p q : Bool) → (p || q) ≡ false → (p ≡ false) × (q ≡ false)
-or_false true q h = absurd cc
-or_false false q h = (refl, h)
+use Rattle.cil_base.specs.Refusals.{key, is_less, First, Test, Fails, first_of, IfRefused, OnRefused, IfMemory, OnMemory}
 
 -- at the head: it is not less, and where it is equal the tails decide
 pub head_of : (x y : ℕ) (xs ys : List ℕ) → is_less (x ∷ xs) (y ∷ ys) ≡ false → (y ≤ x) × (x ≡ y → is_less xs ys ≡ false)
 head_of x y xs ys h =
-    let p = or_false (ltb x y) (eqb x y && is_less xs ys) h in
+    let p = or_neither (ltb x y) (eqb x y && is_less xs ys) h in
     (ltb-false x y p.0, λ same. sym (ap (λ (b : Bool). b && is_less xs ys) (same_test x y same)) ∙ p.1)
   where
     same_test : (a b : ℕ) → a ≡ b → eqb a b ≡ true
@@ -73,3 +70,11 @@ IfRefused-weaker (Memory e) P Q f h = tt
 pub OnRefused-weaker : {T : Type 0} (result : Result T Fault) (P Q : Refusal → Type 0) → ((r : Refusal) → P r → Q r) → OnRefused result P → OnRefused result Q
 OnRefused-weaker (Ok x) P Q f h = tt
 OnRefused-weaker (Err fault) P Q f h = IfRefused-weaker fault P Q f h
+
+pub IfMemory-weaker : (fault : Fault) (P Q : Type 0) → (P → Q) → IfMemory fault P → IfMemory fault Q
+IfMemory-weaker (Refused r) P Q f h = tt
+IfMemory-weaker (Memory e) P Q f h = f h
+
+pub OnMemory-weaker : {T : Type 0} (result : Result T Fault) (P Q : Type 0) → (P → Q) → OnMemory result P → OnMemory result Q
+OnMemory-weaker (Ok x) P Q f h = tt
+OnMemory-weaker (Err fault) P Q f h = IfMemory-weaker fault P Q f h

@@ -1,4 +1,5 @@
 pub mod Numbers
+pub mod Bytes
 pub mod Packed
 pub mod Tokens
 pub mod Causes

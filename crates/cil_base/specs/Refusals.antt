@@ -1,5 +1,5 @@
 -- Which refusal is named: within a layer the first one by place, and then by rule; a layer is tried where none before it is broken.
-use Rattle.std.specs.Prelude.{◌≡◌, ℕ, ◌⊎◌, Bool, true, false, ◌||◌, ◌&&◌, ◌==◌, nat_lt, List, [], ◌∷◌, Option, Some, None, Result, Ok, Err, if◌then◌else◌}
+use Rattle.std.specs.Prelude.{◌≡◌, ℕ, ◌⊎◌, Bool, true, false, ◌||◌, ◌&&◌, ◌==◌, ◌+◌, nat_lt, List, [], ◌∷◌, Option, Some, None, Result, Ok, Err, if◌then◌else◌}
 use Rattle.cil_base.specs.declared.rule.Rule.{Rule}
 use Rattle.cil_base.specs.declared.refusal.Place.{Place}
 use Rattle.cil_base.specs.declared.refusal.Refusal.{Refusal}
@@ -32,6 +32,18 @@ NoneBroken Broken = (r : Refusal) → Broken r → ⊥
 abbrev pub InTurn : (Refusal → Type 0) → (Refusal → Type 0) → Refusal → Type 0
 InTurn Broken Later r = First Broken r ⊎ (NoneBroken Broken × Later r)
 
+-- ---- layers, of which a command has a list: what is broken in each, and which refusals may be named where it is the first
+
+-- the first layer in which something is broken
+abbrev pub InLayers : {L : Type 0} → (L → Refusal → Type 0) → (L → Refusal → Type 0) → List L → Refusal → Type 0
+InLayers Broken Named [] r = ⊥
+InLayers Broken Named (l ∷ ls) r = Named l r ⊎ (NoneBroken (Broken l) × InLayers Broken Named ls r)
+
+-- nothing is broken in any of the layers
+abbrev pub NoneOf : {L : Type 0} → (L → Refusal → Type 0) → List L → Type 0
+NoneOf Broken [] = Unit {0}
+NoneOf Broken (l ∷ ls) = NoneBroken (Broken l) × NoneOf Broken ls
+
 -- ---- rules that each have one place
 
 -- a refusal, and whether it holds
@@ -56,7 +68,25 @@ abbrev pub IfRefused : Fault → (Refusal → Type 0) → Type 0
 IfRefused (Refused r) P = P r
 IfRefused (Memory e) P = Unit {0}
 
+-- The fault is want of memory only where this holds.
+abbrev pub IfMemory : Fault → Type 0 → Type 0
+IfMemory (Refused r) P = Unit {0}
+IfMemory (Memory e) P = P
+
 -- Where the call refuses, this holds of the refusal; want of memory may stand in place of any answer.
 abbrev pub OnRefused : {T : Type 0} → Result T Fault → (Refusal → Type 0) → Type 0
 OnRefused (Ok x) P = Unit {0}
 OnRefused (Err fault) P = IfRefused fault P
+
+-- Want of memory is answered only where this holds: a limit that is tested before anything is allocated is not passed.
+abbrev pub OnMemory : {T : Type 0} → Result T Fault → Type 0 → Type 0
+OnMemory (Ok x) P = Unit {0}
+OnMemory (Err fault) P = IfMemory fault P
+
+-- the refusal of what passes a limit: the first number that is too large
+abbrev pub limit_refusal : Rule → ℕ → Refusal
+limit_refusal rule limit = record { rule = rule; assembly = 0; table = 0; row = 0; at = limit + 1 }
+
+-- a whole assembly, by its number in the command
+abbrev pub assembly_place : ℕ → Place
+assembly_place assembly = record { assembly = assembly; table = 0; row = 0 }

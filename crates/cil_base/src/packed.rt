@@ -2,7 +2,6 @@
 ghost use Rattle.std.specs.Prelude.{◌≡◌, ◌<◌, ◌≤◌, ◌^◌, ◌++◌, length, List, ℕ, Some, OnOk, IfSome};
 ghost use Rattle.cil_base.specs.Packed.{packed_two, packed_four, packed_front, packed_at, packed_spelling};
 
-use crate::lists::Bytes;
 use std::alloc::AllocError;
 
 fn two_of(a: u8, rest: &[u8]) -> Option<(u32, u32)>
@@ -59,24 +58,22 @@ pub fn read_packed(bytes: &[u8], at: usize) -> Option<(u32, u32)>
     front_of(&bytes[at.min(bytes.len())..])
 }
 
-/// Appends the shortest spelling of `v`. After a refusal `out` may have some of its bytes more.
-pub fn push_packed(out: &mut Bytes, v: u32) -> Result<(), AllocError>
+/// Appends the shortest spelling of `v`. After want of memory `out` may have some of its bytes more.
+pub fn push_packed(out: &mut Vec<u8>, v: u32) -> Result<(), AllocError>
     requires { v < 2 ^ 29 }
-    ensures spelled { OnOk result (out.new ≡ out.old ++ packed_spelling v) }
+    ensures spelled { OnOk result (out.new.items ≡ out.old.items ++ packed_spelling v) }
     // What was written is read back, whatever follows.
     ensures reads_back { (rest : List ℕ) → packed_front (packed_spelling v ++ rest) ≡ Some (v, length (packed_spelling v)) }
 {
     if v < 0x80 {
-        return out.push(v as u8);
+        out.extend_from_slice(&[v as u8])?;
+    } else if v < 0x4000 {
+        out.extend_from_slice(&[(0x80 + v / 0x100) as u8, (v % 0x100) as u8])?;
+    } else {
+        let [a, b, c, d] = v.to_be_bytes();
+        out.extend_from_slice(&[0xC0 + a, b, c, d])?;
     }
-    if v < 0x4000 {
-        out.push((0x80 + v / 0x100) as u8)?;
-        return out.push((v % 0x100) as u8);
-    }
-    out.push((0xC0 + v / 0x100_0000) as u8)?;
-    out.push((v / 0x1_0000 % 0x100) as u8)?;
-    out.push((v / 0x100 % 0x100) as u8)?;
-    out.push((v % 0x100) as u8)
+    Ok(())
 }
 
 #[cfg(test)]
@@ -97,7 +94,7 @@ mod tests {
         ];
         for (v, spelling) in cases {
             if v < 0x2000_0000 {
-                let mut out = Bytes::new(rt.alloc());
+                let mut out = Vec::new(rt.alloc());
                 push_packed(&mut out, v)?;
                 assert!(rt; out.as_slice() == spelling, "at {v}");
                 assert_eq!(rt; read_packed(spelling, 0), Some((v, spelling.len() as u32)));

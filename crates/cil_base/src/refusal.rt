@@ -1,7 +1,7 @@
 // Which rule an input breaks, and where.
-ghost use Rattle.std.specs.Prelude.{◌≡◌};
-ghost use Rattle.cil_base.specs.declared.refusal.Fault.TheVariants.{Memory};
-ghost use Rattle.cil_base.specs.Refusals.{refusal};
+ghost use Rattle.std.specs.Prelude.{◌≡◌, ◌<◌, ◌^◌};
+ghost use Rattle.cil_base.specs.declared.refusal.Fault.TheVariants.{Refused, Memory};
+ghost use Rattle.cil_base.specs.Refusals.{refusal, limit_refusal, assembly_place};
 
 use crate::rule::Rule;
 use std::alloc::AllocError;
@@ -25,6 +25,17 @@ pub struct Refusal {
 }
 
 impl Place {
+    /// A whole assembly, by its number in the command.
+    pub fn of_assembly(assembly: u32) -> Place
+        ensures { result ≡ assembly_place assembly }
+    {
+        Place {
+            assembly,
+            table: 0,
+            row: 0,
+        }
+    }
+
     /// The refusal by a rule at an offset of this place.
     pub fn refusal(self, rule: Rule, at: u32) -> Refusal
         ensures { result ≡ refusal rule self at }
@@ -35,6 +46,22 @@ impl Place {
             table: self.table,
             row: self.row,
             at,
+        }
+    }
+}
+
+impl Refusal {
+    /// The refusal of what passes a limit; `at` is the first number that is too large.
+    pub fn limit(rule: Rule, limit: u32) -> Refusal
+        requires { limit < 2 ^ 31 }
+        ensures { result ≡ limit_refusal rule limit }
+    {
+        Refusal {
+            rule,
+            assembly: 0,
+            table: 0,
+            row: 0,
+            at: limit + 1,
         }
     }
 }
@@ -51,5 +78,13 @@ impl From<AllocError> for Fault {
 
     fn from(e: AllocError) -> Self {
         Fault::Memory(e)
+    }
+}
+
+impl From<Refusal> for Fault {
+    ghost from_gives = { λ r f. f ≡ Refused r };
+
+    fn from(r: Refusal) -> Self {
+        Fault::Refused(r)
     }
 }

@@ -5,7 +5,7 @@ use Rattle.cil_base.specs.declared.rule.Rule.{Rule}
 use Rattle.cil_base.specs.declared.rule.Rule.TheVariants.{P1, P2, P3, P4, P6}
 use Rattle.cil_base.specs.declared.refusal.Refusal.{Refusal}
 use Rattle.cil_base.specs.Refusals.{refusal, Test, Fails, NoneBroken}
-use Rattle.cil_base.specs.Numbers.{num, printed_place}
+use Rattle.cil_base.specs.Numbers.{num, printed_offset}
 use Rattle.pe_image.specs.declared.headers.Headers.{Headers}
 use Rattle.pe_image.specs.declared.fields.Field.{Field}
 use Rattle.pe_image.specs.declared.section.Section.{Section}
@@ -20,7 +20,7 @@ test rule a at fails = record { refusal = refusal rule (record { assembly = a; t
 -- ---- P6: fields that pass the end of the file
 
 abbrev pub cut : List ℕ → ℕ → ℕ → ℕ → Test
-cut bytes a at width = test P6 a (printed_place at) (not (reaches bytes (at + width)))
+cut bytes a at width = test P6 a (printed_offset at) (not (reaches bytes (at + width)))
 
 -- fields behind a place
 abbrev pub cuts : List ℕ → ℕ → ℕ → List Field → List Test

@@ -1,6 +1,6 @@
 // Header fields that pass the end of the file.
 ghost use Rattle.std.specs.Prelude.{◌≡◌, ◌<◌, ◌^◌, length};
-ghost use Rattle.cil_base.specs.Numbers.{printed_place};
+ghost use Rattle.cil_base.specs.Numbers.{printed_offset};
 ghost use Rattle.cil_base.specs.Refusals.{refusal, first_of};
 ghost use Rattle.pe_image.specs.Rules.{cuts};
 
@@ -15,7 +15,7 @@ pub struct Field {
 
 /// The refusal at a place of the file. One past the last u32 is printed as the last.
 pub fn refusal_at(rule: Rule, assembly: u32, at: usize) -> Refusal
-    ensures { result ≡ refusal rule (record { assembly = assembly; table = 0; row = 0 }) (printed_place at) }
+    ensures { result ≡ refusal rule (record { assembly = assembly; table = 0; row = 0 }) (printed_offset at) }
 {
     let place = Place {
         assembly,
