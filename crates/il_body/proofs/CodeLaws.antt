@@ -8,9 +8,9 @@ use Rattle.std.proofs.Math.Seq.{drop-append_seam}
 use Rattle.cil_model.specs.declared.body.Operand.{Operand}
 use Rattle.cil_model.specs.declared.body.Operand.TheVariants.{Nothing, Int, Index, Target, Targets, Tok}
 use Rattle.cil_model.specs.declared.body.Instr.{Instr}
-use Rattle.cil_model.specs.declared.opcode.Opcode.{Opcode}
-use Rattle.cil_model.specs.declared.opcode.OperandKind.{OperandKind}
-use Rattle.cil_model.specs.declared.opcode.OperandKind.TheVariants as op
+use Rattle.il_opcodes.specs.declared.opcode.Opcode.{Opcode}
+use Rattle.il_opcodes.specs.declared.opcode.OperandKind.{OperandKind}
+use Rattle.il_opcodes.specs.declared.opcode.OperandKind.TheVariants as op
 use Rattle.cil_model.specs.BodyOf.{IsInstr, mapped, place_of, placed, placed_operand}
 use Rattle.cil_model.specs.SmallCode.{Reads}
 use Rattle.il_code.specs.Answers.{Rise}

@@ -9,10 +9,10 @@ use Rattle.std.proofs.lemmas.List.{get_or-drop}
 use Rattle.byteorder.specs.Endian.{little_from}
 use Rattle.cil_base.specs.Numbers.{num, num_at}
 use Rattle.cil_base.specs.Tokens.{token_of}
-use Rattle.cil_model.specs.declared.opcode.Opcode.{Opcode}
-use Rattle.cil_model.specs.declared.opcode.OperandKind.{OperandKind}
-use Rattle.cil_model.specs.declared.opcode.OperandKind.TheVariants as op
-use Rattle.cil_model.specs.Opcodes.{opcode_of, the_opcodes}
+use Rattle.il_opcodes.specs.declared.opcode.Opcode.{Opcode}
+use Rattle.il_opcodes.specs.declared.opcode.OperandKind.{OperandKind}
+use Rattle.il_opcodes.specs.declared.opcode.OperandKind.TheVariants as op
+use Rattle.il_opcodes.specs.Opcodes.{opcode_of, the_opcodes}
 use Rattle.cil_model.specs.BodyCode.{code_at, known, opcode_at, opcode_for, second_of}
 use Rattle.il_body.specs.BodyEncoding.{AreBytes, IsSmallToken, is_within, takes_nothing, takes_target, takes_targets, takes_token}
 use Rattle.il_body.proofs.SpellingLaws.{passing}

@@ -10,8 +10,8 @@ use Rattle.cil_base.specs.Numbers.{num, num_at}
 use Rattle.cil_base.specs.Tokens.{token_of, token_number}
 use Rattle.cil_model.specs.declared.body.Operand.{Operand}
 use Rattle.cil_model.specs.declared.body.Operand.TheVariants.{Nothing, Int, Index, Target, Targets, Tok}
-use Rattle.cil_model.specs.declared.opcode.OperandKind.{OperandKind}
-use Rattle.cil_model.specs.declared.opcode.OperandKind.TheVariants as op
+use Rattle.il_opcodes.specs.declared.opcode.OperandKind.{OperandKind}
+use Rattle.il_opcodes.specs.declared.opcode.OperandKind.TheVariants as op
 use Rattle.cil_model.specs.BodyCode.{cases, landing, operand_at, switch_of, token_at, with_number}
 use Rattle.cil_model.specs.SmallCode.{displacement}
 use Rattle.il_body.specs.BodyEncoding.{IsSmallToken, IsValidOperand, case_bytes, cases_in, index_bytes, int_bytes, operand_bytes, takes, takes_index, takes_int, takes_nothing, takes_target, takes_targets, takes_token}

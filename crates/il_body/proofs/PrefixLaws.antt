@@ -7,10 +7,10 @@ use Rattle.cil_base.specs.declared.token.Token.{Token}
 use Rattle.cil_base.specs.Numbers.{num_at}
 use Rattle.cil_base.specs.Tokens.{token_of, token_number}
 use Rattle.cil_model.specs.declared.body.Instr.{Instr}
-use Rattle.cil_model.specs.declared.opcode.Opcode.{Opcode}
-use Rattle.cil_model.specs.declared.opcode.OperandKind.TheVariants as op
-use Rattle.cil_model.specs.declared.opcode.Class.TheVariants as class
-use Rattle.cil_model.specs.Opcodes.{opcode_of, the_opcodes, row}
+use Rattle.il_opcodes.specs.declared.opcode.Opcode.{Opcode}
+use Rattle.il_opcodes.specs.declared.opcode.OperandKind.TheVariants as op
+use Rattle.il_opcodes.specs.declared.opcode.Class.TheVariants as class
+use Rattle.il_opcodes.specs.Opcodes.{opcode_of, the_opcodes, row}
 use Rattle.cil_model.specs.BodyCode.{instr_at, opcode_at, operand_at, prefixed, with_operand}
 use Rattle.cil_model.specs.BodyLayout.{bit}
 use Rattle.il_code.proofs.InstrLaws.{flagged, other, typed}

@@ -13,10 +13,10 @@ use Rattle.cil_base.specs.Tokens.{token_of}
 use Rattle.cil_model.specs.declared.body.Instr.{Instr}
 use Rattle.cil_model.specs.declared.body.Operand.{Operand}
 use Rattle.cil_model.specs.declared.body.Operand.TheVariants.{Nothing, Int, Index, Target, Targets, Tok}
-use Rattle.cil_model.specs.declared.opcode.Opcode.{Opcode}
-use Rattle.cil_model.specs.declared.opcode.OperandKind.{OperandKind}
-use Rattle.cil_model.specs.declared.opcode.OperandKind.TheVariants as op
-use Rattle.cil_model.specs.Opcodes.{the_opcodes}
+use Rattle.il_opcodes.specs.declared.opcode.Opcode.{Opcode}
+use Rattle.il_opcodes.specs.declared.opcode.OperandKind.{OperandKind}
+use Rattle.il_opcodes.specs.declared.opcode.OperandKind.TheVariants as op
+use Rattle.il_opcodes.specs.Opcodes.{the_opcodes}
 use Rattle.cil_model.specs.SmallCode.{Reading}
 use Rattle.cil_model.specs.BodyCode.{behind, behind_code, cases, instr_at, landing, opcode_at, operand_at, prefixed, switch_of, token_at, widened, with_number, with_operand, with_type}
 use Rattle.il_body.specs.BodyEncoding.{AreBytes, IsSmallToken, is_within, spelling_of, takes, takes_index, takes_int, takes_targets, takes_token}

@@ -6,10 +6,10 @@ use Rattle.std.proofs.lemmas.Bool.{leb-true}
 use Rattle.std.proofs.lemmas.Grind.{common_steps}
 use Rattle.cil_model.specs.declared.body.Operand.{Operand}
 use Rattle.cil_model.specs.declared.body.Operand.TheVariants.{Nothing, Int, Index, Target, Targets, Tok}
-use Rattle.cil_model.specs.declared.opcode.Opcode.{Opcode}
-use Rattle.cil_model.specs.declared.opcode.OperandKind.{OperandKind}
-use Rattle.cil_model.specs.declared.opcode.OperandKind.TheVariants as op
-use Rattle.cil_model.specs.Opcodes.{opcode_of, the_opcodes}
+use Rattle.il_opcodes.specs.declared.opcode.Opcode.{Opcode}
+use Rattle.il_opcodes.specs.declared.opcode.OperandKind.{OperandKind}
+use Rattle.il_opcodes.specs.declared.opcode.OperandKind.TheVariants as op
+use Rattle.il_opcodes.specs.Opcodes.{opcode_of, the_opcodes}
 use Rattle.cil_model.specs.BodyCode.{opcode_at}
 use Rattle.il_body.specs.BodyEncoding.{AreShortest, code_bytes, spelling_of, spelling_room, takes}
 use Rattle.il_body.proofs.Encoding.{both, decide}

@@ -8,7 +8,8 @@ ghost use Rattle.il_body.specs.BodyEncoding.{AllBelow, IsSmallToken, IsValidInst
 use crate::numbers::{push_eight, push_four, push_two};
 use crate::spelling::{front_size, has_flag, spelling};
 use cil_base::{Bytes, Token};
-use cil_model::{Instr, Opcode, Operand, OperandKind};
+use cil_model::{Instr, Operand};
+use il_opcodes::{Opcode, OperandKind};
 use std::alloc::AllocError;
 
 fn push_code(out: &mut Bytes, code: u16) -> Result<(), AllocError>

@@ -4,7 +4,8 @@ ghost use Rattle.cil_model.specs.BodyLayout.{bit};
 ghost use Rattle.il_body.specs.BodyEncoding.{AreShortest, takes, takes_int, takes_index, takes_token, spelling_of, code_bytes, flag_bytes, constrained_bytes, front_bytes, operand_bytes, int_bytes, index_bytes, instr_size, cases_in};
 
 use cil_base::Token;
-use cil_model::{Instr, Opcode, Operand, OperandKind, opcodes};
+use cil_model::{Instr, Operand};
+use il_opcodes::{Opcode, OperandKind, opcodes};
 
 fn int_fits(kind: OperandKind, z: i64) -> bool
     ensures { result ≡ takes_int kind z }

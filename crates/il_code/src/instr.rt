@@ -7,7 +7,8 @@ ghost use Rattle.il_code.specs.declared.instr.ReadFault.TheVariants.{Memory};
 use crate::numbers::bytes_from;
 use crate::operand::read_operand;
 use cil_base::{Rule, Token, read_u32_at};
-use cil_model::{Instr, Opcode, OperandKind, find_opcode};
+use cil_model::Instr;
+use il_opcodes::{Opcode, OperandKind, find_opcode};
 use std::alloc::{AllocError, Global};
 
 /// Why there is no instruction.

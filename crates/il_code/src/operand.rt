@@ -8,7 +8,8 @@ ghost use Rattle.std.specs.Int.{w8, w32, w64, cast_signed};
 
 use crate::numbers::{eight_in, four_in};
 use cil_base::{Token, U32s, read_u16_at, read_u32_at};
-use cil_model::{Operand, OperandKind};
+use cil_model::Operand;
+use il_opcodes::OperandKind;
 use std::alloc::{AllocError, Global};
 
 /// The offset so far behind the end of an instruction.

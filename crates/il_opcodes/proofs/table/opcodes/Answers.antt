@@ -1,7 +1,7 @@
 use Rattle.std.proofs.Common.{refl}
 use Rattle.std.proofs.lemmas.List.Sums.{AllPass-from_list_all}
-use Rattle.cil_model.specs.Opcodes.{the_opcodes, opcode_of, is_regular}
-use Rattle.cil_model.proofs.opcode.opcodes.Goals as goal
+use Rattle.il_opcodes.specs.Opcodes.{the_opcodes, opcode_of, is_regular}
+use Rattle.il_opcodes.proofs.table.opcodes.Goals as goal
 
 pub returns-clause-table : goal.returns-clause-table
 unfolding the_opcodes
