@@ -1,6 +1,6 @@
 use Rattle.std.proofs.Common.{◌≡◌, ◌<◌, ◌≤◌, ◌^◌, ℕ, List, Option, Some, None, Ok, Err, arith, sym, ap, ◌∙◌, get_or}
 use Rattle.il_code.proofs.PlaceLaws.{missing, searched_place}
-use Rattle.il_code.proofs.targets.place_in.Goals as goal
+use Rattle.il_code.proofs.targets.index_in.Goals as goal
 
 pub returns-then-at-gt4294967295 : goal.returns-then-at-gt4294967295
 returns-then-at-gt4294967295 c = sym (missing c.args.offsets.now c.args.at (λ j below e. let fits = c.type_inv.offsets j in absurd (omega arith)))
