@@ -1,4 +1,4 @@
-use Rattle.std.proofs.Common.{◌≡◌, Bool, true, false, ◌&&◌, List, refl, sym, ap, ◌∙◌}
+use Rattle.std.proofs.Common.{Bool, ◌&&◌, refl, ap, ◌∙◌}
 use Rattle.std.specs.Prelude.{find, ◌==◌}
 use Rattle.il_opcodes.specs.declared.opcode.Opcode.{Opcode}
 use Rattle.il_opcodes.proofs.OpcodeLaws.{found_from}
