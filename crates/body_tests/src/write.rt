@@ -87,7 +87,11 @@ fn read_small(alloc: Global, bytes: &[u8]) -> Option<Body>
     ensures { IfSome result (IsValid 0) }
 {
     read_is_valid();
-    let place = Place::of_assembly(0);
+    let place = Place {
+        assembly: 0,
+        table: 0,
+        row: 0,
+    };
     match decode_small(alloc, bytes, place) {
         Ok(body) => Some(body),
         Err(_) => None,
