@@ -1,0 +1,198 @@
+// Heaps that grow, and the root that is written with them.
+use crate::sample::{ROOT, changed};
+use cil_base::{Bytes, Fault, Rule, push_u16, push_u32, push_zeros};
+use cli_heaps::Heaps;
+use heap_writer::{HeapBuilder, write_metadata};
+use std::alloc::{AllocError, Global};
+
+fn builder(alloc: Global) -> Result<HeapBuilder, Fault> {
+    match Heaps::read(&ROOT, 0) {
+        Ok(heaps) => Ok(HeapBuilder::new(alloc, &heaps)?),
+        Err(refusal) => Err(Fault::Refused(refusal)),
+    }
+}
+
+/// Whether the texts "ab" and "-" are appended, each once, behind the sample's bytes.
+fn user_strings_grow(alloc: Global) -> Result<bool, Fault> {
+    let mut builder = builder(alloc)?;
+    let text = builder.append_user(&[0x61, 0x62])?;
+    let hyphen = builder.append_user(&[0x2D])?;
+    let again = builder.append_user(&[0x61, 0x62])?;
+    let added = builder.user_strings_added() == b"\x05a\0b\0\0\x03-\0\x01".as_slice();
+    Ok(text == 8 && hyphen == 14 && again == 8 && added)
+}
+
+/// Whether the string "ab" is appended once.
+fn strings_grow(alloc: Global) -> Result<bool, Fault> {
+    let mut builder = builder(alloc)?;
+    let name = builder.append_string(b"ab")?;
+    let again = builder.append_string(b"ab")?;
+    let added = builder.strings_added() == b"ab\0".as_slice();
+    Ok(name == 8 && again == 8 && added)
+}
+
+/// Whether the blob of the byte 8 is appended once.
+fn blobs_grow(alloc: Global) -> Result<bool, Fault> {
+    let mut builder = builder(alloc)?;
+    let blob = builder.append_blob(b"\x08")?;
+    let again = builder.append_blob(b"\x08")?;
+    let added = builder.blobs_added() == b"\x01\x08".as_slice();
+    Ok(blob == 4 && again == 4 && added)
+}
+
+#[test]
+fn entries_are_appended_once(rt: HostRuntime) -> Result<(), Fault> {
+    assert!(rt; strings_grow(rt.alloc())?);
+    assert!(rt; blobs_grow(rt.alloc())?);
+    assert!(rt; user_strings_grow(rt.alloc())?);
+    Ok(())
+}
+
+/// Whether a text that is appended to a `#US` without bytes stands behind a zero byte.
+fn empty_heap_grows(alloc: Global) -> Result<bool, Fault> {
+    let meta = changed(alloc, &ROOT, 60, b"\0")?;
+    if meta.len() > 1000 {
+        return Ok(false);
+    }
+    let heaps = match Heaps::read(&meta, 0) {
+        Ok(heaps) => heaps,
+        Err(refusal) => return Err(Fault::Refused(refusal)),
+    };
+    let mut builder = HeapBuilder::new(alloc, &heaps)?;
+    let at = builder.append_user(&[])?;
+    Ok(at == 1 && builder.user_strings_added() == b"\0\x01\0".as_slice())
+}
+
+#[test]
+fn an_empty_heap_gets_a_zero_byte_first(rt: HostRuntime) -> Result<(), Fault> {
+    assert!(rt; empty_heap_grows(rt.alloc())?);
+    Ok(())
+}
+
+/// The metadata with the text "ab" appended.
+fn with_text(alloc: Global, heaps: &Heaps<'_>) -> Result<Bytes, Fault> {
+    let mut builder = HeapBuilder::new(alloc, heaps)?;
+    builder.append_user(&[0x61, 0x62])?;
+    let tables = heaps.tables();
+    if tables.len() != 24 {
+        return Err(Fault::Memory(AllocError));
+    }
+    write_metadata(alloc, heaps, &builder, tables)
+}
+
+/// The sample without `#US`, which is an unknown stream by another name, with a text appended.
+fn without_user_strings(alloc: Global) -> Result<Bytes, Fault> {
+    let meta = changed(alloc, &ROOT, 66, b"X")?;
+    if meta.len() > 1000 {
+        return Err(Fault::Memory(AllocError));
+    }
+    match Heaps::read(&meta, 3) {
+        Ok(heaps) => with_text(alloc, &heaps),
+        Err(refusal) => Err(Fault::Refused(refusal)),
+    }
+}
+
+/// Whether the stream of this number has this name, and so many bytes at this place.
+fn stream_is(
+    alloc: Global,
+    meta: &[u8],
+    number: usize,
+    name: &[u8],
+    offset: u32,
+    bytes: &[u8],
+) -> Result<bool, AllocError> {
+    if meta.len() > 1000 {
+        return Ok(false);
+    }
+    let Ok(heaps) = Heaps::read(meta, 3) else {
+        return Ok(false);
+    };
+    let streams = heaps.streams(alloc)?;
+    let Some(stream) = streams.get(number) else {
+        return Ok(false);
+    };
+    Ok(stream.is_named(name) && stream.offset() == offset && heaps.stream_bytes(stream) == bytes)
+}
+
+/// Whether a heap that was missing comes behind the others: seven headers, and 8 bytes more.
+fn missing_heap_is_last(alloc: Global) -> Result<bool, Fault> {
+    let new = without_user_strings(alloc)?;
+    let meta = new.as_slice();
+    Ok(
+        meta.len() == 200
+            && stream_is(alloc, meta, 2, b"#UX", 160, b"\0\x05a\0b\0\0\0")?
+            && stream_is(alloc, meta, 5, b"#Other", 188, b"more")?
+            && stream_is(alloc, meta, 6, b"#US", 192, b"\0\x05a\0b\0\0\0")?,
+    )
+}
+
+#[test]
+fn a_missing_heap_comes_behind_the_others(rt: HostRuntime) -> Result<(), Fault> {
+    assert!(rt; missing_heap_is_last(rt.alloc())?);
+    Ok(())
+}
+
+/// The rule and the limit of a refusal.
+fn limit_of<T: Drop>(result: Result<T, Fault>) -> Option<(Rule, u32)> {
+    match result {
+        Err(Fault::Refused(refusal)) => Some((refusal.rule, refusal.at)),
+        _ => None,
+    }
+}
+
+/// Whether a text of 2^23 units, whose entry alone is too long for `#US`, is refused.
+fn long_text_is_refused(alloc: Global) -> Result<bool, Fault> {
+    let mut builder = builder(alloc)?;
+    let mut units = Vec::new(alloc);
+    for _ in 0..0x80_0000u32 {
+        units.push(0x61u16)?;
+    }
+    Ok(limit_of(builder.append_user(&units)) == Some((Rule::L5, 0x100_0001)))
+}
+
+#[test]
+fn a_heap_keeps_its_limit(rt: HostRuntime) -> Result<(), Fault> {
+    assert!(rt; long_text_is_refused(rt.alloc())?);
+    Ok(())
+}
+
+/// A root of 1 MiB with `#~` and 149 streams that each are the whole of it.
+fn overlapping(alloc: Global) -> Result<Vec<u8>, AllocError> {
+    let mut meta = Vec::from_slice(alloc, b"BSJB\x01\0\x01\0\0\0\0\0\x04\0\0\0v1\0\0\0\0")?;
+    push_u16(&mut meta, 150)?;
+    push_u32(&mut meta, 24 + 150 * 12)?;
+    push_u32(&mut meta, 24)?;
+    meta.extend_from_slice(b"#~\0\0")?;
+    for _ in 0..149u8 {
+        push_u32(&mut meta, 0)?;
+        push_u32(&mut meta, 0x10_0000)?;
+        meta.extend_from_slice(b"#A\0\0")?;
+    }
+    let gap = 0x10_0000usize.saturating_sub(meta.len());
+    push_zeros(&mut meta, gap)?;
+    Ok(meta)
+}
+
+/// Whether the streams, which written apart have 149 MiB, are refused before they are copied.
+fn overlapping_streams_are_refused(alloc: Global) -> Result<bool, Fault> {
+    let meta = overlapping(alloc)?;
+    if meta.len() > 0x10_0000 {
+        return Ok(false);
+    }
+    let heaps = match Heaps::read(&meta, 0) {
+        Ok(heaps) => heaps,
+        Err(refusal) => return Err(Fault::Refused(refusal)),
+    };
+    let builder = HeapBuilder::new(alloc, &heaps)?;
+    let tables = heaps.tables();
+    if tables.len() != 24 {
+        return Ok(false);
+    }
+    Ok(limit_of(write_metadata(alloc, &heaps, &builder, tables)) == Some((Rule::L6, 0x800_0001)))
+}
+
+#[test]
+fn metadata_that_no_image_holds_are_refused(rt: HostRuntime) -> Result<(), Fault> {
+    assert!(rt; overlapping_streams_are_refused(rt.alloc())?);
+    Ok(())
+}
