@@ -1,9 +1,8 @@
 -- Entries of the stream of user strings, one after another.
-use Rattle.std.proofs.Common.{◌≡◌, ℕ, zero, suc, ◌+◌, ◌-◌, ◌*◌, eqb, Option, ◌≤◌, ◌<◌, ltb, leb, Bool, true, false, cond, ◌&&◌, ◌||◌, ◌%◌, ◌^◌, ◌++◌, length-append, List, [], ◌∷◌, length, drop, get_or, drop-cons, Some, None, refl, sym, ap, ◌∙◌, arith}
-use Rattle.std.proofs.lemmas.Bool.{le-leb, eq-eqb}
-use Rattle.std.proofs.lemmas.List.{drop-drop, length-drop, drop_all}
-use Rattle.std.specs.List.{flat_map}
-use Rattle.cil_base.specs.Packed.{packed_front, packed_two, packed_four, packed_at, packed_spelling}
+use Rattle.std.proofs.Common.{◌≡◌, ℕ, zero, suc, ◌+◌, ◌-◌, ◌≤◌, ◌<◌, ltb, leb, Bool, true, false, cond, ◌&&◌, List, [], ◌∷◌, length, drop, get_or, drop-cons, Some, None, refl, sym, ap, ◌∙◌, arith}
+use Rattle.std.proofs.lemmas.Bool.{le-leb}
+use Rattle.std.proofs.lemmas.List.{drop-drop, length-drop}
+use Rattle.cil_base.specs.Packed.{packed_front, packed_two, packed_four, packed_at}
 use Rattle.cli_heaps.specs.RootRules.{is_user_string_length, is_entry, are_user_strings}
 
 width_of : (x y : ℕ × ℕ) → Some x ≡ Some y → x.1 ≡ y.1

@@ -1,10 +1,10 @@
 -- Tables that are written, read back.
-use Rattle.std.proofs.Common.{◌≡◌, ◌⊎◌, ℕ, zero, suc, ◌+◌, ◌-◌, ◌*◌, ◌/◌, ◌%◌, ◌^◌, ◌<◌, ◌≤◌, eqb, ltb, ◌&&◌, ◌||◌, not, Bool, true, false, cond, List, [], ◌∷◌, ◌++◌, length, get_or, take, drop, map, replicate, refl, sym, ap, ◌∙◌, subst, inl, inr, arith, add-one, append_assoc}
+use Rattle.std.proofs.Common.{◌≡◌, ◌⊎◌, ℕ, zero, suc, ◌+◌, ◌-◌, ◌*◌, ◌/◌, ◌%◌, ◌^◌, ◌<◌, ◌≤◌, eqb, ltb, ◌&&◌, ◌||◌, not, Bool, true, false, cond, List, [], ◌∷◌, ◌++◌, length, get_or, take, drop, map, refl, sym, ap, ◌∙◌, subst, inl, inr, arith, add-one, append_assoc}
 use Rattle.std.specs.Prelude.{sum_by, count_ones, Result, Ok, Err, IfOk, OnOk}
 use Rattle.std.proofs.lemmas.Result.{IfOk-weaker}
 use Rattle.std.specs.List.{list_all, range_with_len}
 use Rattle.std.proofs.Math.Nat.{pow-suc}
-use Rattle.std.proofs.lemmas.List.{append-nil, length-append, length-drop, length-take-le, length-replicate, take_all, get_or_past, nil_from_length}
+use Rattle.std.proofs.lemmas.List.{append-nil, length-append, length-drop, length-take-le, take_all, get_or_past, nil_from_length}
 use Rattle.std.proofs.lemmas.List.FromFn.{get_or-map-range_with_len, length-map-range_with_len}
 use Rattle.std.proofs.lemmas.Bool.{cases_lt, cases_Bool, ltb-true, ltb-false, eq-eqb, ne_eqb}
 use Rattle.cil_base.specs.Numbers.{num}
@@ -16,7 +16,7 @@ use Rattle.cli_heaps.specs.Root as root
 use Rattle.heap_writer.specs.Growth.{HeapGrowths}
 use Rattle.cil_base.specs.Bytes.{IsAt, number_bytes, zeros, padding, padded}
 use Rattle.cil_base.proofs.PieceLaws.{at_first, at_last, at_in, at_moved, at_equal, at_within, at_number, at_byte, part_at, length_number, length_padded}
-use Rattle.heap_writer.specs.Written.{parts, written_root, IsWritten, limit_tests, IsTooLong, Within}
+use Rattle.heap_writer.specs.Written.{parts, written_root, IsWritten, limit_tests, IsTooLong}
 use Rattle.heap_writer.proofs.PieceLaws.{padded_word}
 use Rattle.cli_tables.specs.declared.schema.Column.TheVariants.{U8, U16, U32, StringIndex, GuidIndex, BlobIndex, Row, FirstRow, Coded}
 use Rattle.cli_tables.specs.declared.schema.Column.{Column}

@@ -1,5 +1,5 @@
 -- User strings that stay whole when others come behind them.
-use Rattle.std.proofs.Common.{◌≡◌, ℕ, zero, suc, ◌+◌, ◌-◌, ◌*◌, eqb, Option, ◌≤◌, ◌<◌, ltb, leb, Bool, true, false, cond, ◌&&◌, ◌||◌, ◌%◌, ◌^◌, ◌++◌, length-append, List, [], ◌∷◌, length, drop, get_or, Some, None, refl, sym, ap, ◌∙◌, arith}
+use Rattle.std.proofs.Common.{◌≡◌, ℕ, zero, suc, ◌+◌, ◌-◌, ◌*◌, eqb, Option, ◌≤◌, ◌<◌, leb, Bool, true, false, ◌&&◌, ◌||◌, ◌%◌, ◌^◌, ◌++◌, length-append, List, [], ◌∷◌, length, drop, Some, None, refl, ap, ◌∙◌, arith}
 use Rattle.std.proofs.lemmas.Bool.{le-leb, eq-eqb}
 use Rattle.std.proofs.lemmas.List.{drop_all}
 use Rattle.std.specs.List.{flat_map}

@@ -1,5 +1,5 @@
 -- A metadata root that is written: the streams one behind the other, each at a multiple of 4 (ECMA-335, II.24.2.1 and II.24.2.2).
-use Rattle.std.specs.Prelude.{◌≡◌, ℕ, ◌+◌, ◌-◌, ◌%◌, ◌<◌, ◌≤◌, ◌^◌, true, not, ◌||◌, ◌==◌, nat_lt, List, [], ◌∷◌, ◌++◌, length, take, replicate, map, filter, All, Option, is_some, IfSome, Some, codes, if◌then◌else◌}
+use Rattle.std.specs.Prelude.{◌≡◌, ℕ, ◌+◌, ◌-◌, ◌%◌, ◌<◌, ◌≤◌, ◌^◌, true, not, ◌||◌, ◌==◌, nat_lt, List, [], ◌∷◌, ◌++◌, length, take, map, filter, All, Option, is_some, IfSome, Some, codes, if◌then◌else◌}
 use Rattle.std.specs.List.{flat_map}
 use Rattle.cil_base.specs.declared.rule.Rule.TheVariants.{L5, L6}
 use Rattle.cil_base.specs.declared.refusal.Refusal.{Refusal}

@@ -1,4 +1,4 @@
-use Rattle.std.proofs.Common.{◌≡◌, ◌≤◌, ◌<◌, ◌^◌, Some, None, ◌∙◌, sym, ap, arith}
+use Rattle.std.proofs.Common.{Some, ◌∙◌, sym, ap, arith}
 use Rattle.cil_base.specs.declared.refusal.Refusal.{Refusal}
 use Rattle.heap_writer.proofs.LimitLaws.{first_long, first_none}
 use Rattle.heap_writer.proofs.limits.first_limit.Goals as goal

@@ -1,4 +1,4 @@
-use Rattle.std.proofs.Common.{◌≡◌, ℕ, List, ◌+◌, ◌-◌, ◌^◌, min, ◌∙◌, ap}
+use Rattle.std.proofs.Common.{◌≡◌, ℕ, ◌+◌, ◌-◌, ◌^◌, min, ◌∙◌, ap}
 use Rattle.cil_base.specs.Bytes.{padding}
 use Rattle.cli_heaps.specs.Root.{first_header}
 use Rattle.cli_heaps.proofs.AcceptedLaws.{whole_root}

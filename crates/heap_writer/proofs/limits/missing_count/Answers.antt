@@ -1,4 +1,4 @@
-use Rattle.std.proofs.Common.{◌≡◌, List, ℕ, cond, ◌||◌, eqb, length, is_some, codes, ◌∙◌, ap, arith}
+use Rattle.std.proofs.Common.{List, ℕ, cond, ◌||◌, eqb, length, is_some, codes, ◌∙◌, ap}
 use Rattle.cli_heaps.specs.Root.{first_named}
 use Rattle.heap_writer.specs.Written.{grown_known}
 use Rattle.heap_writer.proofs.LimitLaws.{missing_many}

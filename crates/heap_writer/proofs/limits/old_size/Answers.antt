@@ -1,4 +1,4 @@
-use Rattle.std.proofs.Common.{◌≡◌, ℕ, ◌+◌, ◌-◌, ◌^◌, min, ◌∙◌, sym, ap, arith}
+use Rattle.std.proofs.Common.{ℕ, ◌+◌, ◌-◌, ◌^◌, min, ◌∙◌, sym, ap, arith}
 use Rattle.cli_heaps.proofs.AcceptedLaws.{whole_root}
 use Rattle.cli_heaps.proofs.StreamLaws.{begins}
 use Rattle.heap_writer.specs.Written.{grown_known}

@@ -1,4 +1,4 @@
-use Rattle.std.proofs.Common.{◌≡◌, ℕ, List, ◌++◌, ◌-◌, length, take, ap, arith, length-append}
+use Rattle.std.proofs.Common.{◌≡◌, ℕ, List, ◌-◌, length, take, ap, arith, length-append}
 use Rattle.std.proofs.lemmas.List.{length-take-le}
 use Rattle.heap_writer.proofs.LimitLaws.{front_word}
 use Rattle.heap_writer.proofs.writer.write_root.Goals as goal
