@@ -5,16 +5,18 @@ use cli_heaps::Heaps;
 use heap_writer::{HeapBuilder, write_metadata};
 use std::alloc::{AllocError, Global};
 
-fn builder(alloc: Global) -> Result<HeapBuilder, Fault> {
-    match Heaps::read(&ROOT, 0) {
+fn builder_of(alloc: Global, meta: &[u8]) -> Result<HeapBuilder, Fault> {
+    if meta.len() > 1000 {
+        return Err(Fault::Memory(AllocError));
+    }
+    match Heaps::read(meta, 0) {
         Ok(heaps) => Ok(HeapBuilder::new(alloc, &heaps)?),
         Err(refusal) => Err(Fault::Refused(refusal)),
     }
 }
 
 /// Whether the texts "ab" and "-" are appended, each once, behind the sample's bytes.
-fn user_strings_grow(alloc: Global) -> Result<bool, Fault> {
-    let mut builder = builder(alloc)?;
+fn user_strings_grow(builder: &mut HeapBuilder) -> Result<bool, Fault> {
     let text = builder.append_user(&[0x61, 0x62])?;
     let hyphen = builder.append_user(&[0x2D])?;
     let again = builder.append_user(&[0x61, 0x62])?;
@@ -23,8 +25,7 @@ fn user_strings_grow(alloc: Global) -> Result<bool, Fault> {
 }
 
 /// Whether the string "ab" is appended once.
-fn strings_grow(alloc: Global) -> Result<bool, Fault> {
-    let mut builder = builder(alloc)?;
+fn strings_grow(builder: &mut HeapBuilder) -> Result<bool, Fault> {
     let name = builder.append_string(b"ab")?;
     let again = builder.append_string(b"ab")?;
     let added = builder.strings_added() == b"ab\0".as_slice();
@@ -32,40 +33,47 @@ fn strings_grow(alloc: Global) -> Result<bool, Fault> {
 }
 
 /// Whether the blob of the byte 8 is appended once.
-fn blobs_grow(alloc: Global) -> Result<bool, Fault> {
-    let mut builder = builder(alloc)?;
+fn blobs_grow(builder: &mut HeapBuilder) -> Result<bool, Fault> {
     let blob = builder.append_blob(b"\x08")?;
     let again = builder.append_blob(b"\x08")?;
     let added = builder.blobs_added() == b"\x01\x08".as_slice();
     Ok(blob == 4 && again == 4 && added)
 }
 
-#[test]
-fn entries_are_appended_once(rt: HostRuntime) -> Result<(), Fault> {
-    assert!(rt; strings_grow(rt.alloc())?);
-    assert!(rt; blobs_grow(rt.alloc())?);
-    assert!(rt; user_strings_grow(rt.alloc())?);
-    Ok(())
-}
-
 /// Whether a text that is appended to a `#US` without bytes stands behind a zero byte.
-fn empty_heap_grows(alloc: Global) -> Result<bool, Fault> {
-    let meta = changed(alloc, &ROOT, 60, b"\0")?;
-    if meta.len() > 1000 {
-        return Ok(false);
-    }
-    let heaps = match Heaps::read(&meta, 0) {
-        Ok(heaps) => heaps,
-        Err(refusal) => return Err(Fault::Refused(refusal)),
-    };
-    let mut builder = HeapBuilder::new(alloc, &heaps)?;
+fn empty_heap_grows(builder: &mut HeapBuilder) -> Result<bool, Fault> {
     let at = builder.append_user(&[])?;
     Ok(at == 1 && builder.user_strings_added() == b"\0\x01\0".as_slice())
 }
 
+fn grows(alloc: Global, meta: &[u8], heap: u8) -> Result<bool, Fault> {
+    let mut builder = builder_of(alloc, meta)?;
+    match heap {
+        b's' => strings_grow(&mut builder),
+        b'b' => blobs_grow(&mut builder),
+        b'u' => user_strings_grow(&mut builder),
+        _ => empty_heap_grows(&mut builder),
+    }
+}
+
+/// The same in the sample with another byte at a place.
+fn changed_grows(alloc: Global, place: usize, bytes: &[u8], heap: u8) -> Result<bool, Fault> {
+    let meta = changed(alloc, &ROOT, place, bytes)?;
+    grows(alloc, &meta, heap)
+}
+
 #[test]
-fn an_empty_heap_gets_a_zero_byte_first(rt: HostRuntime) -> Result<(), Fault> {
-    assert!(rt; empty_heap_grows(rt.alloc())?);
+fn entries_are_appended_once(rt: HostRuntime) -> Result<(), Fault> {
+    // the last has no byte of `#US`
+    let rows: [(usize, &[u8], u8); 4] = [
+        (0, b"", b's'),
+        (0, b"", b'b'),
+        (0, b"", b'u'),
+        (60, b"\0", b'e'),
+    ];
+    for (place, bytes, heap) in rows {
+        assert!(rt; changed_grows(rt.alloc(), place, bytes, heap)?, "of {heap}");
+    }
     Ok(())
 }
 

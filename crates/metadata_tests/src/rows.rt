@@ -139,8 +139,7 @@ fn rows_are_found_by_a_cell(rt: HostRuntime) -> Result<(), Fault> {
 
 /// Whether two rows are appended and a cell is written, and all else stays.
 #[tactic(auto, unfolding(cli_tables::specs::Schema::the_tables))]
-fn rows_grow(alloc: Global) -> Result<bool, Fault> {
-    let mut tables = read(alloc)?;
+fn append_and_set(tables: &mut Tables) -> Result<bool, Fault> {
     let first = tables.append(0x1A, &[4])?;
     let second = tables.append(0x1A, &[1])?;
     if tables.cell(0x02, 1, 0).is_some() {
@@ -158,35 +157,44 @@ fn rows_grow(alloc: Global) -> Result<bool, Fault> {
     )
 }
 
+fn rows_grow(alloc: Global) -> Result<bool, Fault> {
+    let mut tables = read(alloc)?;
+    append_and_set(&mut tables)
+}
+
 #[test]
 fn rows_are_appended_and_cells_written(rt: HostRuntime) -> Result<(), Fault> {
     assert!(rt; rows_grow(rt.alloc())?);
     Ok(())
 }
 
-/// The sample with so many TypeRef rows, the last of which its new rows and a TypeDef row name.
+/// Appends so many TypeRef rows, the last of which they and a TypeDef row name.
 #[tactic(auto, unfolding(cli_tables::specs::Schema::the_tables))]
-fn with_rows(alloc: Global, heaps: &Heaps<'_>, rows: u32) -> Result<Tables, Fault> {
-    let rows = rows % 0x10_0000;
-    let mut tables = Tables::read(alloc, heaps, 0)?;
+fn add_rows(tables: &mut Tables, rows: u32) -> Result<(), Fault> {
+    let index = 4 * (rows % 0x10_0000);
     for _row in 0..rows {
-        tables.append(0x01, &[4 * rows + 3, 1, 4])?;
+        tables.append(0x01, &[index + 3, 1, 4])?;
     }
     if tables.cell(0x02, 2, 3).is_some() {
-        tables.set(0x02, 2, 3, 4 * rows + 1);
+        tables.set(0x02, 2, 3, index + 1);
     }
-    Ok(tables)
+    Ok(())
 }
 
-/// The same, written; None where an index doesn't fit.
-fn write(alloc: Global, rows: u32) -> Result<Option<Bytes>, Fault> {
-    let heaps = sample()?;
-    let tables = with_rows(alloc, &heaps, rows)?;
-    let grown = HeapBuilder::new(alloc, &heaps)?;
-    if !tables.fits(&heaps, &grown) {
-        return Ok(None);
+/// The tables, written; no bytes where an index doesn't fit.
+fn write(alloc: Global, heaps: &Heaps<'_>, tables: &Tables) -> Result<Bytes, Fault> {
+    let grown = HeapBuilder::new(alloc, heaps)?;
+    if !tables.fits(heaps, &grown) {
+        return Ok(Bytes::new(alloc));
     }
-    Ok(Some(tables.write(alloc, &heaps, &grown)?))
+    tables.write(alloc, heaps, &grown)
+}
+
+fn write_rows(alloc: Global, rows: u32) -> Result<Bytes, Fault> {
+    let heaps = sample()?;
+    let mut tables = Tables::read(alloc, &heaps, 0)?;
+    add_rows(&mut tables, rows)?;
+    write(alloc, &heaps, &tables)
 }
 
 /// Whether the metadata has a stream of tables of this length, and the rows read back.
@@ -210,10 +218,8 @@ fn reads_back(alloc: Global, meta: &[u8], rows: u32, len: usize) -> Result<bool,
 }
 
 fn is_written(alloc: Global, rows: u32, len: usize) -> Result<bool, Fault> {
-    match write(alloc, rows)? {
-        None => Ok(false),
-        Some(meta) => reads_back(alloc, meta.as_slice(), rows, len),
-    }
+    let meta = write_rows(alloc, rows)?;
+    reads_back(alloc, meta.as_slice(), rows, len)
 }
 
 #[test]
@@ -225,16 +231,24 @@ fn many_rows_widen_the_indexes_that_name_them(rt: HostRuntime) -> Result<(), Fau
     Ok(())
 }
 
-/// Whether the tables fit their columns with this number as the first of the fields of a type.
 #[tactic(auto, unfolding(cli_tables::specs::Schema::the_tables))]
-fn fits_with(alloc: Global, field: u32) -> Result<bool, Fault> {
-    let heaps = sample()?;
-    let mut tables = Tables::read(alloc, &heaps, 0)?;
-    let grown = HeapBuilder::new(alloc, &heaps)?;
+fn set_field(tables: &mut Tables, field: u32) {
     if tables.cell(0x02, 1, 4).is_some() {
         tables.set(0x02, 1, 4, field);
     }
-    Ok(tables.fits(&heaps, &grown))
+}
+
+fn fits(alloc: Global, heaps: &Heaps<'_>, tables: &Tables) -> Result<bool, Fault> {
+    let grown = HeapBuilder::new(alloc, heaps)?;
+    Ok(tables.fits(heaps, &grown))
+}
+
+/// Whether the tables fit their columns with this number as the first of the fields of a type.
+fn fits_with(alloc: Global, field: u32) -> Result<bool, Fault> {
+    let heaps = sample()?;
+    let mut tables = Tables::read(alloc, &heaps, 0)?;
+    set_field(&mut tables, field);
+    fits(alloc, &heaps, &tables)
 }
 
 #[test]
