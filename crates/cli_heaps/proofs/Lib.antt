@@ -1,14 +1,5 @@
 pub mod EntryLaws
-pub mod UserLaws
+pub mod UserStringLaws
 pub mod StreamLaws
 pub mod RootLaws
 pub mod AcceptedLaws
-pub mod ReadLaws
-pub mod GrowthLaws
-pub mod PieceLaws
-pub mod PlacedLaws
-pub mod OnceLaws
-pub mod RuleLaws
-pub mod FrontLaws
-pub mod PartLaws
-pub mod WrittenLaws

@@ -1,4 +1,4 @@
--- Entries of the heaps (ECMA-335, II.24.2.3 to II.24.2.5). Place 0 has the empty entry, also where there is no heap.
+-- Entries of the heaps (ECMA-335, II.24.2.3 to II.24.2.5). Offset 0 has the empty entry, also where there is no heap.
 use Rattle.std.specs.Prelude.{ℕ, ◌+◌, ◌*◌, ◌-◌, Bool, ◌||◌, ◌==◌, nat_le, List, [], length, take, drop, Option, Some, None, is_some, position, if◌then◌else◌}
 use Rattle.std.specs.Option.{option_map}
 use Rattle.cil_base.specs.Packed.{packed_at}
@@ -11,7 +11,7 @@ until_zero bytes = option_map (λ n. take n bytes) (position is_zero bytes)
 abbrev pub string_at : List ℕ → ℕ → Option (List ℕ)
 string_at heap at = if at == 0 then Some [] else until_zero (drop at heap)
 
--- so many bytes from a place on, where there are as many
+-- so many bytes from an offset on, where there are as many
 abbrev pub bytes_at : List ℕ → ℕ → ℕ → Option (List ℕ)
 bytes_at heap at n = if nat_le (at + n) (length heap) then Some (take n (drop at heap)) else None
 

@@ -4,7 +4,7 @@ use Rattle.std.specs.List.{before_first}
 use Rattle.std.specs.Cmp.Lexicographic.{pointwise}
 use Rattle.cil_base.specs.Numbers.{num}
 
--- the length of the version text, which begins at place 16
+-- the length of the version text, which begins at offset 16
 abbrev pub version_length : List ℕ → ℕ
 version_length meta = num meta 12 4
 
@@ -31,14 +31,14 @@ name_at meta at = before_first is_zero (drop at meta)
 abbrev pub name_width : ℕ → ℕ
 name_width n = 4 * (n / 4 + 1)
 
--- where the header at a place ends
+-- where the header at an offset ends
 abbrev pub header_end : List ℕ → ℕ → ℕ
 header_end meta at = at + 8 + name_width (length (name_at meta (at + 8)))
 
 abbrev pub is_whole_header : List ℕ → ℕ → Bool
 is_whole_header meta at = nat_le (header_end meta at) (length meta)
 
--- header: the place of the header. offset and size: where the stream's bytes lie in the metadata
+-- header: the offset of the header. offset and size: where the stream's bytes lie in the metadata
 pub record Stream : Type 0 where
   pub header : ℕ
   pub offset : ℕ
@@ -85,8 +85,8 @@ strings meta = heap_named meta (codes "#Strings")
 abbrev pub blobs : List ℕ → List ℕ
 blobs meta = heap_named meta (codes "#Blob")
 
-abbrev pub users : List ℕ → List ℕ
-users meta = heap_named meta (codes "#US")
+abbrev pub user_strings : List ℕ → List ℕ
+user_strings meta = heap_named meta (codes "#US")
 
 abbrev pub guids : List ℕ → List ℕ
 guids meta = heap_named meta (codes "#GUID")
@@ -105,7 +105,7 @@ tables_offset meta = offset_of (first_named meta (codes "#~"))
 
 -- ---- what a reader sees
 
--- the metadata of an assembly, whose number is its place among the files of the command
+-- the metadata of an assembly, whose number is its index among the files of the command
 pub record Metadata : Type 0 where
   pub bytes : List ℕ
   pub assembly : ℕ

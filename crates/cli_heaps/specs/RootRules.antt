@@ -1,16 +1,16 @@
--- The rules on the metadata root and its streams, each with its place: an offset in the metadata.
+-- The rules on the metadata root and its streams, each with its offset in the metadata.
 use Rattle.std.specs.Prelude.{ℕ, zero, suc, ◌+◌, ◌*◌, ◌%◌, ◌-◌, Bool, true, false, not, ◌||◌, ◌&&◌, ◌==◌, nat_lt, nat_le, List, [], ◌∷◌, ◌++◌, length, drop, Option, Some, None, is_some, codes, count_ones, if◌then◌else◌}
 use Rattle.std.specs.List.{list_any}
 use Rattle.cil_base.specs.declared.rule.Rule.{Rule}
 use Rattle.cil_base.specs.declared.rule.Rule.TheVariants.{M1, M2, M3}
 use Rattle.cil_base.specs.declared.refusal.Refusal.{Refusal}
-use Rattle.cil_base.specs.Refusals.{Test, Fails}
+use Rattle.cil_base.specs.Refusals.{Test, Fails, refusal, assembly_place}
 use Rattle.cil_base.specs.Numbers.{num}
 use Rattle.cil_base.specs.Packed.{packed_front}
 use Rattle.cli_heaps.specs.Root.{Stream, version_length, stream_count, first_header, header_end, is_whole_header, name_at, name_width, stream_at, streams, stream_bytes, is_named, first_named}
 
 abbrev pub test : Rule → ℕ → ℕ → Bool → Test
-test rule assembly at fails = record { refusal = record { rule = rule; assembly = assembly; table = 0; row = 0; at = at }; fails = fails }
+test rule assembly at fails = record { refusal = refusal rule (assembly_place assembly) at; fails = fails }
 
 -- where the first field that isn't whole begins; the fields stand one behind the other
 abbrev pub cut_field : ℕ → ℕ → List ℕ → Option ℕ
@@ -31,20 +31,20 @@ header_cut meta at = cut_field (length meta) at (4 ∷ 4 ∷ name_width (length 
 -- ---- the stream of user strings (II.24.2.4)
 
 -- an entry is empty, or it is units of two bytes and one byte more
-abbrev pub is_user_length : ℕ → Bool
-is_user_length n = (n == 0) || (n % 2 == 1)
+abbrev pub is_user_string_length : ℕ → Bool
+is_user_string_length n = (n == 0) || (n % 2 == 1)
 
 -- where an entry of this length begins, what is left behind it is so
 abbrev pub is_entry : (ℕ → Bool) → Option (ℕ × ℕ) → Bool
 is_entry is_left None = false
-is_entry is_left (Some (n, width)) = is_user_length n && is_left (n + width - 1)
+is_entry is_left (Some (n, width)) = is_user_string_length n && is_left (n + width - 1)
 
 -- so many bytes, and then whole entries one after another
-abbrev pub is_users : ℕ → List ℕ → Bool
-is_users zero [] = true
-is_users (suc left) [] = false
-is_users zero (b ∷ rest) = is_entry (λ left. is_users left rest) (packed_front (b ∷ rest))
-is_users (suc left) (b ∷ rest) = is_users left rest
+abbrev pub are_user_strings : ℕ → List ℕ → Bool
+are_user_strings zero [] = true
+are_user_strings (suc left) [] = false
+are_user_strings zero (b ∷ rest) = is_entry (λ left. are_user_strings left rest) (packed_front (b ∷ rest))
+are_user_strings (suc left) (b ∷ rest) = are_user_strings left rest
 
 -- ---- the stream headers
 
@@ -53,7 +53,7 @@ abbrev pub is_cut_stream : List ℕ → Stream → Bool
 is_cut_stream meta s =
     nat_lt (length meta) (s.offset + s.size)
     || (is_named (codes "#~") s && nat_lt (length (stream_bytes meta s)) (24 + 4 * count_ones (num (stream_bytes meta s) 8 8)))
-    || (is_named (codes "#US") s && not (is_users 0 (drop 1 (stream_bytes meta s))))
+    || (is_named (codes "#US") s && not (are_user_strings 0 (drop 1 (stream_bytes meta s))))
 
 -- the streams that stand at most once
 abbrev pub is_known : Stream → Bool

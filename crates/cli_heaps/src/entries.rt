@@ -4,16 +4,9 @@ ghost use Rattle.std.specs.Option.{option_copied, option_map};
 ghost use Rattle.cli_heaps.specs.Root.{is_zero};
 ghost use Rattle.cli_heaps.specs.Entries.{until_zero, string_at, bytes_at, counted_at, blob_at, guid_at};
 
-use cil_base::read_packed;
+use cil_base::{bytes_from, read_packed};
 
-/// What stands from a place on; nothing where the place is past the end.
-pub fn rest_of(bytes: &[u8], at: usize) -> &[u8]
-    ensures { result.now ≡ drop at bytes.now }
-{
-    &bytes[at.min(bytes.len())..]
-}
-
-/// The place of the first zero byte.
+/// The index of the first zero byte.
 pub fn zero_at(bytes: &[u8]) -> Option<usize>
     ensures { result ≡ position is_zero bytes.now }
 {
@@ -29,14 +22,14 @@ fn before_zero(bytes: &[u8]) -> Option<&[u8]>
     }
 }
 
-/// The string at a place, without its zero byte.
+/// The string at an offset, without its zero byte.
 pub fn string_at(heap: &[u8], at: u32) -> Option<&[u8]>
     ensures { option_copied result ≡ string_at heap.now at }
 {
     if at == 0 {
         return Some(&[]);
     }
-    before_zero(rest_of(heap, at as usize))
+    before_zero(bytes_from(heap, at as usize))
 }
 
 fn bytes_at(heap: &[u8], at: usize, n: usize) -> Option<&[u8]>
@@ -49,7 +42,7 @@ fn bytes_at(heap: &[u8], at: usize, n: usize) -> Option<&[u8]>
     Some(&heap[at..at + n])
 }
 
-/// The bytes behind the compressed length at a place.
+/// The bytes behind the compressed length at an offset.
 pub fn blob_at(heap: &[u8], at: u32) -> Option<&[u8]>
     ensures { option_copied result ≡ blob_at heap.now at }
 {
@@ -72,7 +65,7 @@ pub fn guid_at(heap: &[u8], index: u32) -> Option<&[u8]>
     bytes_at(heap, 16 * (index as usize - 1), 16)
 }
 
-/// The place behind the last zero byte; a string begins at each place before it.
+/// The offset behind the last zero byte; a string begins at each offset before it.
 pub fn strings_end(heap: &[u8]) -> usize
     ensures { (at : ℕ) → is_some (string_at heap.now at) ≡ ((at == 0) || nat_lt at result) }
 {

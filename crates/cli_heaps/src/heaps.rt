@@ -3,7 +3,7 @@ ghost use Rattle.std.specs.Prelude.{◌≡◌, ◌<◌, ◌≤◌, ◌^◌, ◌+
 ghost use Rattle.std.specs.Option.{option_copied};
 ghost use Rattle.cil_base.specs.Refusals.{First, NoneBroken};
 ghost use Rattle.cil_base.specs.Numbers.{num};
-ghost use Rattle.cli_heaps.specs.Root.{Metadata, strings, blobs, users, guids, tables, tables_offset, first_named, stream_bytes, streams};
+ghost use Rattle.cli_heaps.specs.Root.{Metadata, strings, blobs, user_strings, guids, tables, tables_offset, first_named, stream_bytes, streams};
 ghost use Rattle.cli_heaps.specs.RootRules.{Broken};
 ghost use Rattle.cli_heaps.specs.Entries.{string_at, blob_at, guid_at, is_guid_index};
 
@@ -22,7 +22,7 @@ pub struct Heaps<'a> {
     strings: &'a [u8],
     strings_end: usize,
     blobs: &'a [u8],
-    users: &'a [u8],
+    user_strings: &'a [u8],
     guids: &'a [u8],
     tables: &'a [u8],
     tables_offset: u32,
@@ -36,12 +36,12 @@ impl<'a> Model for Heaps<'a> {
 
     ghost view = { λ h. record { bytes = h.meta.now; assembly = h.assembly } };
 
-    ghost invariant = { λ h. IsSplit h.meta.now h.assembly h.strings.now h.blobs.now h.users.now h.guids.now h.tables.now h.tables_offset h.strings_end };
+    ghost invariant = { λ h. IsSplit h.meta.now h.assembly h.strings.now h.blobs.now h.user_strings.now h.guids.now h.tables.now h.tables_offset h.strings_end };
 }
 
 impl<'a> Heaps<'a> {
     /// Reads the root and its stream headers (II.24.2.1, II.24.2.2). `assembly` is named by a refusal:
-    /// M1, M2 or M3 at the first broken place.
+    /// M1, M2 or M3 at the first broken offset.
     pub fn read(meta: &'a [u8], assembly: u32) -> Result<Heaps<'a>, Refusal>
         requires { length meta.now < 2 ^ 32 }
         ensures ok { IfOk result (λ h. h ≡ record { bytes = meta.entry.now; assembly = assembly }) }
@@ -59,7 +59,7 @@ impl<'a> Heaps<'a> {
             strings,
             strings_end: strings_end(strings),
             blobs: bytes_named(meta, b"#Blob"),
-            users: bytes_named(meta, b"#US"),
+            user_strings: bytes_named(meta, b"#US"),
             guids: bytes_named(meta, b"#GUID"),
             tables: bytes_of(meta, &tables),
             tables_offset: offset_of(&tables),
@@ -74,7 +74,7 @@ impl<'a> Heaps<'a> {
     }
 
     /// Whether there is a stream of this name.
-    pub(crate) fn has_stream(&self, name: &[u8]) -> bool
+    pub fn has_stream(&self, name: &[u8]) -> bool
         ensures { result ≡ is_some (first_named self.now.bytes name.now) }
     {
         find_stream(self.meta, name).is_some()
@@ -135,10 +135,10 @@ impl<'a> Heaps<'a> {
     }
 
     /// The bytes of `#US`; none where there is no such stream.
-    pub fn users(&self) -> &'a [u8]
-        ensures { result.now ≡ users self.now.bytes }
+    pub fn user_strings(&self) -> &'a [u8]
+        ensures { result.now ≡ user_strings self.now.bytes }
     {
-        self.users
+        self.user_strings
     }
 
     /// The bytes of `#GUID`; none where there is no such stream.
@@ -149,38 +149,38 @@ impl<'a> Heaps<'a> {
     }
 
     /// The lengths of `#Strings`, `#Blob` and `#US`.
-    pub(crate) fn lengths(&self) -> (u32, u32, u32)
+    pub fn lengths(&self) -> (u32, u32, u32)
         ensures strings { result.0 ≡ length (strings self.now.bytes) }
         ensures blobs { result.1 ≡ length (blobs self.now.bytes) }
-        ensures users { result.2 ≡ length (users self.now.bytes) }
+        ensures user_strings { result.2 ≡ length (user_strings self.now.bytes) }
     {
         (
             self.strings.len() as u32,
             self.blobs.len() as u32,
-            self.users.len() as u32,
+            self.user_strings.len() as u32,
         )
     }
 
-    /// The string at a place of `#Strings`, without the zero byte behind it (II.24.2.3).
+    /// The string at an offset of `#Strings`, without the zero byte behind it (II.24.2.3).
     pub fn string(&self, at: u32) -> Option<&'a [u8]>
         ensures { option_copied result ≡ string_at (strings self.now.bytes) at }
     {
         entries::string_at(self.strings, at)
     }
 
-    /// The bytes of the entry at a place of `#Blob` (II.24.2.4).
+    /// The bytes of the entry at an offset of `#Blob` (II.24.2.4).
     pub fn blob(&self, at: u32) -> Option<&'a [u8]>
         ensures { option_copied result ≡ blob_at (blobs self.now.bytes) at }
     {
         entries::blob_at(self.blobs, at)
     }
 
-    /// The bytes of the entry at a place of `#US`: UTF-16 units, the low byte first, and one
+    /// The bytes of the entry at an offset of `#US`: UTF-16 units, the low byte first, and one
     /// byte more; none for the empty text (II.24.2.4).
     pub fn user(&self, at: u32) -> Option<&'a [u8]>
-        ensures { option_copied result ≡ blob_at (users self.now.bytes) at }
+        ensures { option_copied result ≡ blob_at (user_strings self.now.bytes) at }
     {
-        entries::blob_at(self.users, at)
+        entries::blob_at(self.user_strings, at)
     }
 
     /// The 16 bytes of an entry of `#GUID`, numbered from 1 (II.24.2.5).
@@ -190,14 +190,14 @@ impl<'a> Heaps<'a> {
         entries::guid_at(self.guids, index)
     }
 
-    /// Whether a string stands at the place. It reads no bytes.
+    /// Whether a string stands at the offset. It reads no bytes.
     pub fn has_string(&self, at: u32) -> bool
         ensures { result ≡ is_some (string_at (strings self.now.bytes) at) }
     {
         at == 0 || (at as usize) < self.strings_end
     }
 
-    /// Whether a whole entry stands at the place.
+    /// Whether a whole entry stands at the offset.
     pub fn has_blob(&self, at: u32) -> bool
         ensures { result ≡ is_some (blob_at (blobs self.now.bytes) at) }
     {

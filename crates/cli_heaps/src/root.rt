@@ -1,29 +1,22 @@
 // The rules on the metadata root and its streams.
 ghost use Rattle.std.specs.Prelude.{◌≡◌, ◌<◌, ◌≤◌, ◌^◌, ◌+◌, ◌*◌, ◌==◌, nat_lt, length, drop, codes, count_ones, Option, Some, None};
-ghost use Rattle.cil_base.specs.Refusals.{first_of};
+ghost use Rattle.cil_base.specs.Refusals.{first_of, refusal, assembly_place};
 ghost use Rattle.cil_base.specs.Numbers.{num};
 ghost use Rattle.cli_heaps.specs.Root.{first_header, stream_count, stream_bytes, is_named};
-ghost use Rattle.cli_heaps.specs.RootRules.{tests, root_cut, header_cut, is_user_length, is_users, is_cut_stream, is_known, is_repeated, stream_tests, header_tests, lacks_tables, test};
+ghost use Rattle.cli_heaps.specs.RootRules.{tests, root_cut, header_cut, is_user_string_length, are_user_strings, is_cut_stream, is_known, is_repeated, stream_tests, header_tests, lacks_tables, test};
 
-use crate::entries::rest_of;
 use crate::streams::{
     Stream, are_whole, bytes_in, find_stream, first_header, header_at, header_end,
 };
 use byteorder::{ByteOrder, LittleEndian};
-use cil_base::{Place, Refusal, Rule, read_packed, read_u16_at, read_u32_at};
+use cil_base::{Place, Refusal, Rule, bytes_from, read_packed, read_u32_at};
 
 const SIGNATURE: u32 = 0x424A_5342;
 
 fn refusal(rule: Rule, assembly: u32, at: u32) -> Refusal
-    ensures { result ≡ record { rule = rule; assembly = assembly; table = 0; row = 0; at = at } }
+    ensures { result ≡ refusal rule (assembly_place assembly) at }
 {
-    Refusal {
-        rule,
-        assembly,
-        table: 0,
-        row: 0,
-        at,
-    }
+    Place::of_assembly(assembly).refusal(rule, at)
 }
 
 /// Where the first field of the root that is not whole begins.
@@ -78,15 +71,15 @@ fn header_cut(meta: &[u8], at: usize) -> Option<u32>
 }
 
 /// Whether an entry of `#US` may have so many bytes.
-fn is_user_length(n: u32) -> bool
-    ensures { result ≡ is_user_length n }
+fn is_user_string_length(n: u32) -> bool
+    ensures { result ≡ is_user_string_length n }
 {
     n == 0 || n % 2 == 1
 }
 
 /// Whether the bytes are whole entries of `#US`, one after another (ECMA-335, II.24.2.4).
-fn are_users(bytes: &[u8]) -> bool
-    ensures { result ≡ is_users 0 bytes.now }
+fn are_user_strings(bytes: &[u8]) -> bool
+    ensures { result ≡ are_user_strings 0 bytes.now }
 {
     let mut at = 0;
     while at < bytes.len() {
@@ -94,7 +87,7 @@ fn are_users(bytes: &[u8]) -> bool
             None => return false,
             Some((n, width)) => {
                 let next = at + n as usize + width as usize;
-                if !is_user_length(n) || next > bytes.len() {
+                if !is_user_string_length(n) || next > bytes.len() {
                     return false;
                 }
                 at = next;
@@ -112,7 +105,7 @@ fn are_cut_tables(bytes: &[u8]) -> bool
     if bytes.len() < 24 {
         return true;
     }
-    let valid = LittleEndian::read_u64(rest_of(bytes, 8));
+    let valid = LittleEndian::read_u64(bytes_from(bytes, 8));
     bytes.len() < 24 + 4 * valid.count_ones() as usize
 }
 
@@ -126,7 +119,7 @@ fn is_cut_stream(meta: &[u8], stream: &Stream<'_>) -> bool
     if stream.is_named(b"#~") && are_cut_tables(bytes_in(meta, stream)) {
         return true;
     }
-    stream.is_named(b"#US") && !are_users(rest_of(bytes_in(meta, stream), 1))
+    stream.is_named(b"#US") && !are_user_strings(bytes_from(bytes_in(meta, stream), 1))
 }
 
 fn is_known(stream: &Stream<'_>) -> bool

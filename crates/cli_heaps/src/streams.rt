@@ -3,8 +3,8 @@ ghost use Rattle.std.specs.Prelude.{◌≡◌, ◌<◌, ◌≤◌, ◌^◌, ◌+
 ghost use Rattle.cli_heaps.specs.Root.{is_zero, is_named, name_at, name_width, header_end, is_whole_header, header_at, stream_at, stream_bytes, first_header, stream_count, streams, streams_from, first_named, bytes_of, offset_of, heap_named};
 ghost use Rattle.cli_heaps.specs.RootRules.{root_cut};
 
-use crate::entries::{rest_of, zero_at};
-use cil_base::{read_u16_at, read_u32_at};
+use crate::entries::zero_at;
+use cil_base::{bytes_from, part, read_u16_at, read_u32_at};
 use std::alloc::{AllocError, Global};
 use std::marker::Model;
 
@@ -62,18 +62,18 @@ impl<'a> Stream<'a> {
     }
 }
 
-/// The name that begins at a place, or all that is left where no zero byte ends it.
+/// The name that begins at an offset, or all that is left where no zero byte ends it.
 fn name_at(meta: &[u8], at: usize) -> &[u8]
     ensures { result.now ≡ name_at meta.now at }
 {
-    let rest = rest_of(meta, at);
+    let rest = bytes_from(meta, at);
     match zero_at(rest) {
         Some(n) => &rest[..n],
         None => rest,
     }
 }
 
-/// Where the header at a place ends, by the name in it.
+/// Where the header at an offset ends, by the name in it.
 pub fn header_end(meta: &[u8], at: usize) -> usize
     requires short { length meta.now < 2 ^ 32 }
     requires near { at < 2 ^ 33 }
@@ -82,7 +82,7 @@ pub fn header_end(meta: &[u8], at: usize) -> usize
     at + 8 + 4 * (name_at(meta, at + 8).len() / 4 + 1)
 }
 
-/// The stream whose header begins at a place, and where the header ends; None where it is not whole.
+/// The stream whose header begins at an offset, and where the header ends; None where it is not whole.
 pub fn header_at(meta: &[u8], at: usize) -> Option<(Stream<'_>, usize)>
     requires short { length meta.now < 2 ^ 32 }
     requires near { at < 2 ^ 33 }
@@ -182,8 +182,7 @@ pub fn all_streams(alloc: Global, meta: &[u8]) -> Result<Vec<Stream<'_>>, AllocE
 pub fn bytes_in<'a>(meta: &'a [u8], stream: &Stream<'_>) -> &'a [u8]
     ensures { result.now ≡ stream_bytes meta.now stream.now }
 {
-    let rest = rest_of(meta, stream.offset as usize);
-    &rest[..(stream.size as usize).min(rest.len())]
+    part(meta, stream.offset as usize, stream.size as usize)
 }
 
 /// The bytes of a stream, or none.

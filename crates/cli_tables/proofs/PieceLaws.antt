@@ -1,21 +1,18 @@
--- Pieces that stand in a list of bytes, and the numbers that they are read as.
-use Rattle.std.proofs.Common.{◌≡◌, ℕ, zero, suc, ◌+◌, ◌-◌, ◌*◌, ◌/◌, ◌%◌, ◌^◌, ◌<◌, ◌≤◌, eqb, Bool, true, false, cond, ltb, ◌&&◌, List, [], ◌∷◌, ◌++◌, length, get_or, drop, take, map, refl, sym, ap, ◌∙◌, subst, inl, inr, arith, add-one, append_assoc}
+-- Numbered pieces one behind the other, the bits of a set of numbers, and tests of all.
+use Rattle.std.proofs.Common.{◌≡◌, ℕ, zero, suc, ◌+◌, ◌-◌, ◌*◌, ◌/◌, ◌%◌, ◌^◌, ◌<◌, ◌≤◌, eqb, Bool, true, false, cond, ltb, ◌&&◌, List, [], ◌∷◌, ◌++◌, length, get_or, map, refl, sym, ap, ◌∙◌, subst, inl, inr, arith, add-one, append_assoc}
 use Rattle.std.specs.List.{flat_map, list_all, range_with_len}
-use Rattle.std.proofs.lemmas.List.{append-nil, length-append}
+use Rattle.std.proofs.lemmas.List.{append-nil}
 use Rattle.std.proofs.lemmas.List.Folds.{flat_map-map, list_all_at}
 use Rattle.std.proofs.lemmas.List.FromFn.{map-range_with_len_more, length-range_with_len, get_or-range_with_len}
 use Rattle.std.proofs.lemmas.Grind.{flat_map-append}
 use Rattle.std.proofs.lemmas.Bool.{cases_lt, cases_Bool, lt-ltb}
 use Rattle.std.proofs.lemmas.Nat.{pow_pos, pow-add}
-use Rattle.std.proofs.Math.Seq.{drop-append_seam, take-append_seam}
-use Rattle.std.specs.Int.{w32, byte_at, bytes_low_first, to_le_bytes}
 use Rattle.std.proofs.Math.Nat.{pow-suc, pow-le-pow_right, add-mul-div_left, add-mul-mod_self_left, div-eq_of_lt, mod-eq_of_lt}
 use Rattle.std.proofs.Math.Pow.{pow-lt}
-use Rattle.byteorder.specs.Endian.{little_number}
-use Rattle.byteorder.specs.Numbers.{little_number-reads_back, length-bytes_low_first}
-use Rattle.cil_base.specs.Numbers.{num}
 use Rattle.cli_tables.specs.Stream.{has_bit}
-use Rattle.cli_tables.specs.Written.{pieces, number_bytes, bits_of}
+use Rattle.cil_base.specs.Bytes.{IsAt}
+use Rattle.cil_base.proofs.PieceLaws.{at_first, at_last, at_in, at_moved}
+use Rattle.cli_tables.specs.Written.{pieces, bits_of}
 
 pub pieces_none : (f : ℕ → List ℕ) → pieces f 0 ≡ []
 unfolding pieces
@@ -33,82 +30,12 @@ pieces_more f n =
 pub pieces_suc : (f : ℕ → List ℕ) (n : ℕ) → pieces f (suc n) ≡ pieces f n ++ f n
 pieces_suc f n = ap (pieces f) (sym (add-one n)) ∙ pieces_more f n
 
--- The piece stands at the place.
-pub record IsAt (bytes : List ℕ) (at : ℕ) (piece : List ℕ) : Type 0 where
-  pub before : List ℕ
-  pub after : List ℕ
-  pub place : length before ≡ at
-  pub split : bytes ≡ before ++ (piece ++ after)
-
-pub at_first : (p q : List ℕ) → IsAt (p ++ q) 0 p
-at_first p q = record { before = []; after = q; place = refl; split = refl }
-
-pub at_last : (p q : List ℕ) → IsAt (p ++ q) (length p) q
-at_last p q = record { before = p; after = []; place = refl; split = ap (λ (l : List ℕ). p ++ l) (sym (append-nil q)) }
-
--- a piece of a piece
-pub at_in : (bytes p q : List ℕ) (a b : ℕ) → IsAt bytes a p → IsAt p b q → IsAt bytes (a + b) q
-at_in bytes p q a b x y = record {
-  before = x.before ++ y.before;
-  after = y.after ++ x.after;
-  place = omega (arith, length-append x.before y.before, x.place, y.place);
-  split =
-      x.split ∙ ap (λ (l : List ℕ). x.before ++ (l ++ x.after)) y.split
-      ∙ ap (λ (l : List ℕ). x.before ++ l) (append_assoc y.before (q ++ y.after) x.after ∙ ap (λ (l : List ℕ). y.before ++ l) (append_assoc q y.after x.after))
-      ∙ sym (append_assoc x.before y.before (q ++ (y.after ++ x.after)));
-}
-
-pub at_moved : (bytes p : List ℕ) (a b : ℕ) → IsAt bytes a p → a ≡ b → IsAt bytes b p
-at_moved bytes p a b x e = subst (λ (k : ℕ). IsAt bytes k p) e x
-
-pub at_equal : (bytes p q : List ℕ) (a : ℕ) → IsAt bytes a p → p ≡ q → IsAt bytes a q
-at_equal bytes p q a x e = subst (λ (l : List ℕ). IsAt bytes a l) e x
-
-pub at_within : (bytes p : List ℕ) (a : ℕ) → IsAt bytes a p → a + length p ≤ length bytes
-at_within bytes p a x =
-    omega (arith, ap (λ (l : List ℕ). length l) x.split, length-append x.before (p ++ x.after), length-append p x.after, x.place)
-
 pub at_piece : (f : ℕ → List ℕ) (n k : ℕ) → k < n → IsAt (pieces f n) (length (pieces f k)) (f k)
 at_piece f zero k lt = absurd (omega arith)
 at_piece f (suc n) k lt = subst (λ (l : List ℕ). IsAt l (length (pieces f k)) (f k)) (sym (pieces_suc f n)) (elim (cases_lt k n) [
   | inl less ↦ at_moved (pieces f n ++ f n) (f k) (0 + length (pieces f k)) (length (pieces f k)) (at_in (pieces f n ++ f n) (pieces f n) (f k) 0 (length (pieces f k)) (at_first (pieces f n) (f n)) (at_piece f n k less)) (omega arith)
   | inr le ↦ let e : k ≡ n = omega arith in subst (λ (j : ℕ). IsAt (pieces f n ++ f n) (length (pieces f j)) (f j)) (sym e) (at_last (pieces f n) (f n))
 ])
-
-pub dropped : (bytes p : List ℕ) (a : ℕ) → IsAt bytes a p → (rest : List ℕ) × (drop a bytes ≡ p ++ rest)
-dropped bytes p a x =
-    (x.after, ap (λ (k : ℕ). drop k bytes) (sym x.place) ∙ ap (drop (length x.before)) x.split ∙ drop-append_seam x.before (p ++ x.after))
-
-pub at_number : (bytes : List ℕ) (a width n : ℕ) → IsAt bytes a (number_bytes width n) → n < 256 ^ width → num bytes a width ≡ n
-unfolding num number_bytes
-at_number bytes a width n x small =
-    let d = dropped bytes (number_bytes width n) a x in
-    ap (little_number width) d.1 ∙ little_number-reads_back width n d.0 small
-
-pub at_byte : (bytes : List ℕ) (a b : ℕ) → IsAt bytes a (b ∷ []) → num bytes a 1 ≡ b
-unfolding num
-at_byte bytes a b x =
-    let d = dropped bytes (b ∷ []) a x in
-    ap (little_number 1) d.1 ∙ omega arith
-
-pub length_number : (width n : ℕ) → length (number_bytes width n) ≡ width
-unfolding number_bytes
-length_number width n = length-bytes_low_first 0 width n
-
-pub take_low : (i k n x : ℕ) → n ≤ k → take n (bytes_low_first i k x) ≡ bytes_low_first i n x
-take_low i k zero x le = refl
-take_low i zero (suc n) x le = absurd (omega arith)
-take_low i (suc k) (suc n) x le = ap (λ (l : List ℕ). byte_at i x ∷ l) (take_low (suc i) k n x (omega arith))
-
--- the lowest bytes of a number of four
-pub number_taken : (width n : ℕ) → width ≤ 4 → take width (to_le_bytes w32 n) ≡ number_bytes width n
-unfolding number_bytes
-number_taken width n le = take_low 0 4 width n le
-
-pub take_at : (bytes p : List ℕ) (a n : ℕ) → IsAt bytes a p → length p ≡ n → take n (drop a bytes) ≡ p
-take_at bytes p a n x e =
-    let d = dropped bytes p a x in
-    ap (take n) d.1 ∙ ap (λ (k : ℕ). take k (p ++ d.0)) (sym e) ∙ take-append_seam p d.0
 
 -- ---- pieces that are appended in turn
 

@@ -42,7 +42,7 @@ count_fits bytes table at lt place whole there =
 
 pub counts_all : (bytes counts : List ℕ) → length counts ≡ 64 → ((k : ℕ) → k < 64 → get_or counts k 0 ≡ row_count bytes k) → counts ≡ counts_in bytes
 unfolding counts_in
-counts_all bytes counts many filled = fill_by_all (row_count bytes) counts 64 0 many filled
+counts_all bytes counts many all = fill_by_all (row_count bytes) counts 64 0 many all
 
 pub tables_below_small : (bytes : List ℕ) (table : ℕ) → tables_below bytes table ≤ table
 unfolding tables_below

@@ -10,8 +10,8 @@ use Rattle.cil_base.specs.Packed.{packed_at}
 use Rattle.cil_base.specs.Refusals.{NoneBroken}
 use Rattle.cli_heaps.specs.Root.{strings, blobs, guids}
 use Rattle.cli_heaps.specs.Entries.{until_zero, string_at, bytes_at, counted_at, blob_at, is_guid_index}
-use Rattle.cli_heaps.specs.Growth.{Growths}
-use Rattle.cli_heaps.specs.Written.{filled}
+use Rattle.heap_writer.specs.Growth.{HeapGrowths}
+use Rattle.cil_base.specs.Bytes.{padded}
 use Rattle.cli_tables.specs.declared.schema.Column.{Column}
 use Rattle.cli_tables.specs.declared.schema.Column.TheVariants.{U8, U16, U32, StringIndex, GuidIndex, BlobIndex, Row, FirstRow, Coded}
 use Rattle.cli_tables.specs.declared.sizes.Sizes.{Sizes}
@@ -71,7 +71,7 @@ place_fits v n le small = go (is_many n) refl
     go true e = small
     go false e = omega (arith, le, ltb-false (2 ^ 16 - 1) n e)
 
-longer : (heap added : List ℕ) → length heap ≤ length (filled (heap ++ added))
+longer : (heap added : List ℕ) → length heap ≤ length (padded 4 (heap ++ added))
 longer heap added =
     omega (arith, length-append heap added, length-append (heap ++ added) (replicate ((4 - length (heap ++ added) % 4) % 4) 0))
 
@@ -86,7 +86,7 @@ few_same s z bits (Some t ∷ os) e =
     ap (λ (l : List ℕ). ltb (get_or l t 0) (2 ^ (16 - bits)) && list_all (has_few s bits) os) e ∙ ap (λ (b : Bool). ltb (get_or z.counts t 0) (2 ^ (16 - bits)) && b) (few_same s z bits os e)
 
 -- the number in a column that names something
-index_fits : (meta stream : List ℕ) (grown : Growths) (ts : List (List (List ℕ))) (at : ℕ) (k : Column) → counts_to ts ≡ counts_in stream → AreBytes stream
+index_fits : (meta stream : List ℕ) (grown : HeapGrowths) (ts : List (List (List ℕ))) (at : ℕ) (k : Column) → counts_to ts ≡ counts_in stream → AreBytes stream
     → names_nothing meta (sizes_of stream) k (num stream at (width_of (sizes_of stream) k)) ≡ false → num stream at (width_of (sizes_of stream) k) < limit_of k
     → num stream at (width_of (sizes_of stream) k) < 256 ^ width_of (sizes_to meta grown ts) k
 index_fits meta stream grown ts at U8 same h named small = small
@@ -94,13 +94,13 @@ index_fits meta stream grown ts at U16 same h named small = small
 index_fits meta stream grown ts at U32 same h named small = small
 index_fits meta stream grown ts at StringIndex same h named small =
     let le = string_within (strings meta) (num stream at (width_of (sizes_of stream) StringIndex)) (some_not (is_some (string_at (strings meta) (num stream at (width_of (sizes_of stream) StringIndex)))) named) in
-    place_fits (num stream at (width_of (sizes_of stream) StringIndex)) (length (filled (strings meta ++ grown.strings.added))) (omega (arith, le, longer (strings meta) grown.strings.added)) small
+    place_fits (num stream at (width_of (sizes_of stream) StringIndex)) (length (padded 4 (strings meta ++ grown.strings.added))) (omega (arith, le, longer (strings meta) grown.strings.added)) small
 index_fits meta stream grown ts at GuidIndex same h named small =
     place_fits (num stream at (width_of (sizes_of stream) GuidIndex)) (length (guids meta) / 16)
     (guid_within (guids meta) (num stream at (width_of (sizes_of stream) GuidIndex)) (some_not (is_guid_index (guids meta) (num stream at (width_of (sizes_of stream) GuidIndex))) named)) small
 index_fits meta stream grown ts at BlobIndex same h named small =
     let le = blob_within (blobs meta) (num stream at (width_of (sizes_of stream) BlobIndex)) (some_not (is_some (blob_at (blobs meta) (num stream at (width_of (sizes_of stream) BlobIndex)))) named) in
-    place_fits (num stream at (width_of (sizes_of stream) BlobIndex)) (length (filled (blobs meta ++ grown.blobs.added))) (omega (arith, le, longer (blobs meta) grown.blobs.added)) small
+    place_fits (num stream at (width_of (sizes_of stream) BlobIndex)) (length (padded 4 (blobs meta ++ grown.blobs.added))) (omega (arith, le, longer (blobs meta) grown.blobs.added)) small
 index_fits meta stream grown ts at (Row t) same h named small =
     subst (λ (l : List ℕ). num stream at (width_of (sizes_of stream) (Row t)) < 256 ^ index_width (ltb (get_or l t 0) (2 ^ (16 - 0)))) (sym same) (num_fits stream at (width_of (sizes_of stream) (Row t)) h)
 index_fits meta stream grown ts at (FirstRow t) same h named small =
@@ -124,7 +124,7 @@ same_counts stream ts h = sym (fill_by_all (rows_of ts) (map (row_count stream) 
     in_counts k = h.rows k
 
 -- the tables of a stream that breaks no rule
-module _ (meta stream : List ℕ) (a : ℕ) (grown : Growths) (ts : List (List (List ℕ))) (none : NoneBroken (Broken meta stream a)) (bytes : AreBytes stream) (read : ts ≡ tables_in stream) (are : AreIn stream ts) where
+module _ (meta stream : List ℕ) (a : ℕ) (grown : HeapGrowths) (ts : List (List (List ℕ))) (none : NoneBroken (Broken meta stream a)) (bytes : AreBytes stream) (read : ts ≡ tables_in stream) (are : AreIn stream ts) where
   names : (t c k : ℕ) → c < length (columns_of t) → k < rows_in stream t → names_nothing meta (sizes_of stream) (kind_of t c) (cell stream t (k + 1) c) ≡ false
   names t c k lt below = elim (cases_Bool (names_nothing meta (sizes_of stream) (kind_of t c) (cell stream t (k + 1) c))) [
     | inl e ↦ absurd (none (record { rule = naming_rule (kind_of t c); assembly = a; table = t; row = k + 1; at = c })

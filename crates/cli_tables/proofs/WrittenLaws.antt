@@ -1,20 +1,23 @@
 -- Tables that are written, read back.
-use Rattle.std.proofs.Common.{◌≡◌, ◌⊎◌, ℕ, zero, suc, ◌+◌, ◌-◌, ◌*◌, ◌/◌, ◌%◌, ◌^◌, ◌<◌, ◌≤◌, eqb, ltb, ◌&&◌, ◌||◌, not, Bool, true, false, cond, List, [], ◌∷◌, ◌++◌, length, get_or, take, drop, map, replicate, refl, sym, ap, ◌∙◌, subst, inl, inr, arith, add-one, append_assoc}
-use Rattle.std.specs.Prelude.{sum_by, Result, Ok, Err, IfOk, OnOk}
+use Rattle.std.proofs.Common.{◌≡◌, ◌⊎◌, ℕ, zero, suc, ◌+◌, ◌-◌, ◌*◌, ◌/◌, ◌%◌, ◌^◌, ◌<◌, ◌≤◌, eqb, ltb, ◌&&◌, ◌||◌, not, Bool, true, false, cond, List, [], ◌∷◌, ◌++◌, length, get_or, take, drop, map, refl, sym, ap, ◌∙◌, subst, inl, inr, arith, add-one, append_assoc}
+use Rattle.std.specs.Prelude.{sum_by, count_ones, Result, Ok, Err, IfOk, OnOk}
 use Rattle.std.proofs.lemmas.Result.{IfOk-weaker}
 use Rattle.std.specs.List.{list_all, range_with_len}
 use Rattle.std.proofs.Math.Nat.{pow-suc}
-use Rattle.std.proofs.lemmas.List.{append-nil, length-append, length-drop, length-take-le, length-replicate, take_all, get_or_past, nil_from_length}
+use Rattle.std.proofs.lemmas.List.{append-nil, length-append, length-drop, length-take-le, take_all, get_or_past, nil_from_length}
 use Rattle.std.proofs.lemmas.List.FromFn.{get_or-map-range_with_len, length-map-range_with_len}
 use Rattle.std.proofs.lemmas.Bool.{cases_lt, cases_Bool, ltb-true, ltb-false, eq-eqb, ne_eqb}
 use Rattle.cil_base.specs.Numbers.{num}
 use Rattle.cil_base.specs.declared.refusal.Refusal.{Refusal}
 use Rattle.cil_base.specs.declared.refusal.Fault.{Fault}
 use Rattle.cil_base.specs.declared.refusal.Fault.TheVariants.{Refused, Memory}
-use Rattle.cil_base.specs.Refusals.{NoneBroken, Fails, OnRefused}
+use Rattle.cil_base.specs.Refusals.{NoneBroken, Fails, OnRefused, OnMemory}
 use Rattle.cli_heaps.specs.Root as root
-use Rattle.cli_heaps.specs.Growth.{Growths}
-use Rattle.cli_heaps.specs.Written.{filled, parts, written, IsWritten, limit_tests}
+use Rattle.heap_writer.specs.Growth.{HeapGrowths}
+use Rattle.cil_base.specs.Bytes.{IsAt, number_bytes, zeros, padding, padded}
+use Rattle.cil_base.proofs.PieceLaws.{at_first, at_last, at_in, at_moved, at_equal, at_within, at_number, at_byte, part_at, length_number, length_padded}
+use Rattle.heap_writer.specs.Written.{parts, written_root, IsWritten, limit_tests, IsTooLong}
+use Rattle.heap_writer.proofs.PieceLaws.{padded_word}
 use Rattle.cli_tables.specs.declared.schema.Column.TheVariants.{U8, U16, U32, StringIndex, GuidIndex, BlobIndex, Row, FirstRow, Coded}
 use Rattle.cli_tables.specs.declared.schema.Column.{Column}
 use Rattle.cli_tables.specs.declared.sizes.Sizes.{Sizes}
@@ -23,12 +26,12 @@ use Rattle.cli_tables.specs.Stream.{has_bit, has_table, tables_below, row_count,
 use Rattle.cli_tables.specs.Layout.{row_end}
 use Rattle.cli_tables.specs.TableRules.{has_unread, is_unread, is_one_assembly, HeaderBroken}
 use Rattle.cli_tables.specs.Tables.{column_of, rows_of, rows_in, limit_of, IsShaped, AreIn}
-use Rattle.cli_tables.specs.Written.{pieces, number_bytes, counts_to, has_rows, bits_of, heap_bits, header_bytes, count_bytes, cell_bytes, row_bytes, table_bytes, stream_to, Fit, Holds, is_index, column_fits, table_fits, indexes_fit, NoneFull, IsOverfull, AreOfOne, sizes_to, stream_in}
+use Rattle.cli_tables.specs.Written.{pieces, counts_to, has_rows, bits_of, heap_bits, header_bytes, count_bytes, cell_bytes, row_bytes, table_bytes, stream_to, Fit, Holds, is_index, column_fits, table_fits, indexes_fit, NoneFull, IsOverfull, AreOfOne, sizes_to, stream_in, size_to, unpadded_size, IsRefused}
 use Rattle.cli_tables.proofs.StreamLaws.{byte_at, counts_all, start_ones}
 use Rattle.cli_tables.proofs.LayoutLaws.{offset_more}
 use Rattle.cli_tables.proofs.HeaderLaws.{none_range}
 use Rattle.cli_tables.proofs.ShapeLaws.{no_columns, is_read, cells_match}
-use Rattle.cli_tables.proofs.PieceLaws.{IsAt, pieces_none, pieces_suc, at_first, at_last, at_in, at_moved, at_equal, at_within, at_piece, at_number, at_byte, take_at, all_at, all_range, length_number, bits_small, bits_bit}
+use Rattle.cli_tables.proofs.PieceLaws.{pieces_none, pieces_suc, at_piece, all_at, all_range, bits_small, bits_bit}
 
 -- ---- counts
 
@@ -114,15 +117,11 @@ same_sizes s counts a b c e f g h =
 
 -- ---- the stream
 
-at_filled : (bytes : List ℕ) → IsAt (filled bytes) 0 bytes
-at_filled bytes = at_first bytes (replicate ((4 - length bytes % 4) % 4) 0)
-
-length_filled : (bytes : List ℕ) → length (filled bytes) % 4 ≡ 0
-length_filled bytes =
-    omega (arith, length-append bytes (replicate ((4 - length bytes % 4) % 4) 0), length-replicate {A = ℕ} ((4 - length bytes % 4) % 4) 0)
+at_padded : (bytes : List ℕ) → IsAt (padded 4 bytes) 0 bytes
+at_padded bytes = at_first bytes (zeros (padding 4 (length bytes)))
 
 stream_is : (old : List ℕ) (sizes : Sizes) (tables : List (List (List ℕ)))
-    → stream_to old sizes tables ≡ filled (header_bytes old sizes ++ pieces (count_bytes sizes) 64 ++ pieces (table_bytes sizes tables) 45)
+    → stream_to old sizes tables ≡ padded 4 (header_bytes old sizes ++ pieces (count_bytes sizes) 64 ++ pieces (table_bytes sizes tables) 45)
 unfolding stream_to
 stream_is old sizes tables = refl
 
@@ -160,7 +159,7 @@ module _ (old : List ℕ) (sizes : Sizes) (tables : List (List (List ℕ))) (who
   front_at : IsAt stream 0 (head ++ counts)
   front_at =
       at_moved stream (head ++ counts) (0 + 0) 0
-      (at_in stream (head ++ counts ++ rows) (head ++ counts) 0 0 (subst (λ (l : List ℕ). IsAt l 0 (head ++ counts ++ rows)) (sym (stream_is old sizes tables)) (at_filled (head ++ counts ++ rows))) (at_first (head ++ counts) rows))
+      (at_in stream (head ++ counts ++ rows) (head ++ counts) 0 0 (subst (λ (l : List ℕ). IsAt l 0 (head ++ counts ++ rows)) (sym (stream_is old sizes tables)) (at_padded (head ++ counts ++ rows))) (at_first (head ++ counts) rows))
       (omega arith)
 
   head_at : IsAt stream 0 head
@@ -172,7 +171,7 @@ module _ (old : List ℕ) (sizes : Sizes) (tables : List (List (List ℕ))) (who
   rows_at : IsAt stream (24 + length counts) rows
   rows_at =
       at_moved stream rows (0 + length (head ++ counts)) (24 + length counts)
-      (at_in stream (head ++ counts ++ rows) rows 0 (length (head ++ counts)) (subst (λ (l : List ℕ). IsAt l 0 (head ++ counts ++ rows)) (sym (stream_is old sizes tables)) (at_filled (head ++ counts ++ rows))) (at_last (head ++ counts) rows))
+      (at_in stream (head ++ counts ++ rows) rows 0 (length (head ++ counts)) (subst (λ (l : List ℕ). IsAt l 0 (head ++ counts ++ rows)) (sym (stream_is old sizes tables)) (at_padded (head ++ counts ++ rows))) (at_last (head ++ counts) rows))
       (omega (arith, length_head, length-append head counts))
 
   in_head : (p : List ℕ) (a : ℕ) → IsAt head a p → IsAt stream a p
@@ -187,7 +186,7 @@ module _ (old : List ℕ) (sizes : Sizes) (tables : List (List (List ℕ))) (who
   heaps_at = in_head (heap_bits sizes ∷ []) 6 (record {
     before = take 6 old;
     after = get_or old 7 0 ∷ (number_bytes 8 (bits_of (has_rows sizes) 64) ++ take 8 (drop 16 old));
-    place = first_six;
+    offset = first_six;
     split = refl;
   })
 
@@ -196,7 +195,7 @@ module _ (old : List ℕ) (sizes : Sizes) (tables : List (List (List ℕ))) (who
   reserved_at = in_head (get_or old 7 0 ∷ []) 7 (record {
     before = take 6 old ++ heap_bits sizes ∷ [];
     after = number_bytes 8 (bits_of (has_rows sizes) 64) ++ take 8 (drop 16 old);
-    place = omega (arith, length-append (take 6 old) (heap_bits sizes ∷ []), first_six);
+    offset = omega (arith, length-append (take 6 old) (heap_bits sizes ∷ []), first_six);
     split = sym (append_assoc (take 6 old) (heap_bits sizes ∷ []) (get_or old 7 0 ∷ (number_bytes 8 (bits_of (has_rows sizes) 64) ++ take 8 (drop 16 old))));
   })
 
@@ -205,7 +204,7 @@ module _ (old : List ℕ) (sizes : Sizes) (tables : List (List (List ℕ))) (who
   ends_at = in_head (number_bytes 8 (bits_of (has_rows sizes) 64) ++ take 8 (drop 16 old)) 8 (record {
     before = take 6 old ++ heap_bits sizes ∷ get_or old 7 0 ∷ [];
     after = [];
-    place = omega (arith, length-append (take 6 old) (heap_bits sizes ∷ get_or old 7 0 ∷ []), first_six);
+    offset = omega (arith, length-append (take 6 old) (heap_bits sizes ∷ get_or old 7 0 ∷ []), first_six);
     split =
         ap (λ (l : List ℕ). take 6 old ++ heap_bits sizes ∷ get_or old 7 0 ∷ l) (sym (append-nil (number_bytes 8 (bits_of (has_rows sizes) 64) ++ take 8 (drop 16 old))))
         ∙ sym (append_assoc (take 6 old) (heap_bits sizes ∷ get_or old 7 0 ∷ []) ((number_bytes 8 (bits_of (has_rows sizes) 64) ++ take 8 (drop 16 old)) ++ []));
@@ -320,7 +319,7 @@ module _ (old : List ℕ) (sizes : Sizes) (tables : List (List (List ℕ))) (who
       go k lt (inr e) = ap (λ (b : Bool). b && eqb (length (columns_of k)) 0) (table_is k lt ∙ e)
 
   fills : length stream % 4 ≡ 0
-  fills = ap (λ (l : List ℕ). length l % 4) (stream_is old sizes tables) ∙ length_filled (head ++ counts ++ rows)
+  fills = ap (λ (l : List ℕ). length l % 4) (stream_is old sizes tables) ∙ padded_word (head ++ counts ++ rows)
 
   pub holds : Holds old sizes tables (stream_to old sizes tables)
   holds = record {
@@ -330,19 +329,26 @@ module _ (old : List ℕ) (sizes : Sizes) (tables : List (List (List ℕ))) (who
     full = fills;
     sizes_are = sizes_same;
     cells = cells_are;
-    versions = take_at stream (take 6 old) 0 6 versions_at first_six;
+    versions = part_at stream (take 6 old) 0 6 versions_at first_six;
     reserved = byte_at stream 7 ∙ at_byte stream 7 (get_or old 7 0) reserved_at;
-    sorted = take_at stream (take 8 (drop 16 old)) 16 8 sorted_at last_eight;
+    sorted = part_at stream (take 8 (drop 16 old)) 16 8 sorted_at last_eight;
     heaps = ap (λ (n : ℕ). not (eqb (n / 2 ^ 3) 0)) heaps_are ∙ (heap_bit sizes.wide_strings sizes.wide_guids sizes.wide_blobs).3;
     all_read = none_unread;
   }
 
+  pub stream_length : length (stream_to old sizes tables) ≡ size_to sizes
+  stream_length =
+      let ones : rows_start stream ≡ 24 + 4 * count_ones (bits_of (has_rows sizes) 64) = holds.bits ∙ ap (λ (n : ℕ). 24 + 4 * count_ones n) valid_is in
+      let all : length (head ++ counts ++ rows) ≡ unpadded_size sizes =
+      omega (arith, length-append (head ++ counts) rows, length-append head counts, length_head, start_is, ones, length_tables sizes tables 45) in
+      ap (λ (l : List ℕ). length l) (stream_is old sizes tables) ∙ length_padded 4 (head ++ counts ++ rows) ∙ ap (λ (n : ℕ). n + padding 4 n) all
+
   -- what is appended in turn
-  pub holds_written : (first second third written : List ℕ) → first ≡ header_bytes old sizes → second ≡ first ++ pieces (count_bytes sizes) 64 → third ≡ second ++ pieces (table_bytes sizes tables) 45 → written ≡ filled third → Holds old sizes tables written
+  pub holds_written : (first second third written : List ℕ) → first ≡ header_bytes old sizes → second ≡ first ++ pieces (count_bytes sizes) 64 → third ≡ second ++ pieces (table_bytes sizes tables) 45 → written ≡ padded 4 third → Holds old sizes tables written
   holds_written first second third written e f g h =
       let body : third ≡ header_bytes old sizes ++ pieces (count_bytes sizes) 64 ++ pieces (table_bytes sizes tables) 45 =
       g ∙ ap (λ (l : List ℕ). l ++ pieces (table_bytes sizes tables) 45) (f ∙ ap (λ (l : List ℕ). l ++ pieces (count_bytes sizes) 64) e) in
-      subst (λ (l : List ℕ). Holds old sizes tables l) (sym (h ∙ ap (λ (l : List ℕ). filled l) body ∙ sym (stream_is old sizes tables))) holds
+      subst (λ (l : List ℕ). Holds old sizes tables l) (sym (h ∙ ap (λ (l : List ℕ). padded 4 l) body ∙ sym (stream_is old sizes tables))) holds
 
 -- ---- the whole metadata
 
@@ -383,10 +389,16 @@ all_fit s ts t c k shape h = elim (cases_lt k (length (column_of ts t c))) [
   | inr past ↦ past_fits s ts t c k past
 ]
 
-pub fit_of : (meta : List ℕ) (grown : Growths) (ts us : List (List (List ℕ))) (s : Sizes) → IsShaped ts → indexes_fit (sizes_to meta grown ts) ts ≡ true → s ≡ sizes_to meta grown ts → us ≡ ts → Fit s us
+pub fit_of : (meta : List ℕ) (grown : HeapGrowths) (ts us : List (List (List ℕ))) (s : Sizes) → IsShaped ts → indexes_fit (sizes_to meta grown ts) ts ≡ true → s ≡ sizes_to meta grown ts → us ≡ ts → Fit s us
 fit_of meta grown ts us s shape h e f =
     subst (λ (z : Sizes). Fit z us) (sym e) (subst (λ (l : List (List (List ℕ))). Fit (sizes_to meta grown ts) l) (sym f)
     (record { counts = refl; cells = λ t c k. all_fit (sizes_to meta grown ts) ts t c k shape h }))
+
+-- how long the stream will be
+pub size_written : (meta old : List ℕ) (grown : HeapGrowths) (ts : List (List (List ℕ))) (s : Sizes) (n : ℕ) → old ≡ root.tables meta → 24 ≤ length old → IsShaped ts → indexes_fit (sizes_to meta grown ts) ts ≡ true → s ≡ sizes_to meta grown ts → n ≡ size_to s → length (stream_in meta grown ts) ≡ n
+size_written meta old grown ts s n o whole shape fit e f =
+    let long : 24 ≤ length (root.tables meta) = subst (λ (l : List ℕ). 24 ≤ length l) o whole in
+    stream_length (root.tables meta) (sizes_to meta grown ts) ts long shape (fit_of meta grown ts ts (sizes_to meta grown ts) shape fit refl refl) ∙ ap size_to (sym e) ∙ sym f
 
 pub none_full : (ts : List (List (List ℕ))) → IsShaped ts → ((t : ℕ) → t < 45 → rows_of ts t ≤ 2 ^ 24 - 1) → NoneFull ts
 none_full ts shape h t = elim (cases_lt t 45) [
@@ -414,23 +426,36 @@ refused_also (Ok x) P Q h = tt
 refused_also (Err (Refused x)) P Q h = inr h
 refused_also (Err (Memory e)) P Q h = tt
 
+pub memory_only : (r : Result (List ℕ) Fault) {P : Type 0} → P → OnMemory r P
+memory_only (Ok x) h = tt
+memory_only (Err (Refused x)) h = tt
+memory_only (Err (Memory e)) h = h
+
+pub stream_same : (meta : List ℕ) (old : List ℕ) (grown : HeapGrowths) (sizes : Sizes) (ts us : List (List (List ℕ))) (stream : List ℕ) → old ≡ root.tables meta → sizes ≡ sizes_to meta grown ts → us ≡ ts → stream ≡ stream_to old sizes us → stream ≡ stream_in meta grown ts
+stream_same meta old grown sizes ts us stream o s u b =
+    b ∙ ap (λ (l : List ℕ). stream_to l sizes us) o ∙ ap (λ (z : Sizes). stream_to (root.tables meta) z us) s
+    ∙ ap (λ (l : List (List (List ℕ))). stream_to (root.tables meta) (sizes_to meta grown ts) l) u
+
 -- what the writer of the metadata answers for the stream of these tables
-module _ (r : Result (List ℕ) Fault) (meta old : List ℕ) (grown : Growths) (sizes : Sizes) (ts us : List (List (List ℕ))) (stream : List ℕ)
+module _ (r : Result (List ℕ) Fault) (meta old : List ℕ) (grown : HeapGrowths) (sizes : Sizes) (ts us : List (List (List ℕ))) (stream : List ℕ)
     (o : old ≡ root.tables meta) (s : sizes ≡ sizes_to meta grown ts) (u : us ≡ ts) (b : stream ≡ stream_to old sizes us) where
-  stream_same : stream ≡ stream_in meta grown ts
-  stream_same =
-      b ∙ ap (λ (l : List ℕ). stream_to l sizes us) o ∙ ap (λ (z : Sizes). stream_to (root.tables meta) z us) s
-      ∙ ap (λ (l : List (List (List ℕ))). stream_to (root.tables meta) (sizes_to meta grown ts) l) u
+  same : stream ≡ stream_in meta grown ts
+  same = stream_same meta old grown sizes ts us stream o s u b
 
   pub header_kept : IfOk r (λ new. IsWritten meta grown stream new) → Holds old sizes us stream → IfOk r (λ new. AreOfOne ts → (assembly : ℕ) → NoneBroken (HeaderBroken new assembly))
   header_kept ok h = IfOk-weaker r (λ new. IsWritten meta grown stream new) (λ new. AreOfOne ts → (assembly : ℕ) → NoneBroken (HeaderBroken new assembly))
       (λ new w one a. one_assembly new old sizes us a (subst (λ (l : List ℕ). Holds old sizes us l) (sym w.tables_are) h) (subst AreOfOne (sym u) one)) ok
 
   pub limits_kept : OnOk r (NoneBroken (Fails (limit_tests meta grown stream))) → OnOk r (NoneBroken (Fails (limit_tests meta grown (stream_in meta grown ts))))
-  limits_kept h = subst (λ (l : List ℕ). OnOk r (NoneBroken (Fails (limit_tests meta grown l)))) stream_same h
+  limits_kept h = subst (λ (l : List ℕ). OnOk r (NoneBroken (Fails (limit_tests meta grown l)))) same h
 
-  pub refused_kept : OnRefused r (Fails (limit_tests meta grown stream)) → OnRefused r (λ x. IsOverfull ts x ⊎ Fails (limit_tests meta grown (stream_in meta grown ts)) x)
-  refused_kept h = refused_also r (IsOverfull ts) (Fails (limit_tests meta grown (stream_in meta grown ts))) (subst (λ (l : List ℕ). OnRefused r (Fails (limit_tests meta grown l))) stream_same h)
+  pub short_kept : OnOk r (length (written_root meta (parts meta grown stream)) ≤ 2 ^ 27) → OnOk r (length (written_root meta (parts meta grown (stream_in meta grown ts))) ≤ 2 ^ 27)
+  short_kept h = subst (λ (l : List ℕ). OnOk r (length (written_root meta (parts meta grown l)) ≤ 2 ^ 27)) same h
 
-  pub bytes_kept : IfOk r (λ new. new ≡ written meta (parts meta grown stream)) → IfOk r (λ new. new ≡ written meta (parts meta grown (stream_in meta grown ts)))
-  bytes_kept h = subst (λ (l : List ℕ). IfOk r (λ new. new ≡ written meta (parts meta grown l))) stream_same h
+  pub refused_kept : OnRefused r (λ x. Fails (limit_tests meta grown stream) x ⊎ IsTooLong meta grown stream x) → OnRefused r (IsRefused meta grown ts)
+  refused_kept h =
+      refused_also r (IsOverfull ts) (λ x. Fails (limit_tests meta grown (stream_in meta grown ts)) x ⊎ IsTooLong meta grown (stream_in meta grown ts) x)
+      (subst (λ (l : List ℕ). OnRefused r (λ x. Fails (limit_tests meta grown l) x ⊎ IsTooLong meta grown l x)) same h)
+
+  pub bytes_kept : IfOk r (λ new. new ≡ written_root meta (parts meta grown stream)) → IfOk r (λ new. new ≡ written_root meta (parts meta grown (stream_in meta grown ts)))
+  bytes_kept h = subst (λ (l : List ℕ). IfOk r (λ new. new ≡ written_root meta (parts meta grown l))) same h

@@ -1,18 +1,19 @@
 -- The `#~` stream that tables are written to (ECMA-335, II.24.2.6).
-use Rattle.std.specs.Prelude.{◌≡◌, ℕ, zero, suc, ◌+◌, ◌-◌, ◌*◌, ◌/◌, ◌%◌, ◌^◌, ◌<◌, ◌≤◌, count_ones, Bool, true, false, not, ◌||◌, nat_lt, List, [], ◌∷◌, ◌++◌, map, length, take, drop, get_or, if◌then◌else◌}
+use Rattle.std.specs.Prelude.{◌≡◌, ◌⊎◌, ℕ, zero, suc, ◌+◌, ◌-◌, ◌*◌, ◌/◌, ◌%◌, ◌^◌, ◌<◌, ◌≤◌, count_ones, Bool, true, false, not, ◌||◌, nat_lt, List, [], ◌∷◌, ◌++◌, map, length, take, drop, get_or, if◌then◌else◌}
 use Rattle.std.specs.List.{flat_map, list_all, range_with_len}
-use Rattle.byteorder.specs.Endian.{little_bytes}
 use Rattle.cil_base.specs.Numbers.{num}
 use Rattle.cil_base.specs.declared.refusal.Refusal.{Refusal}
+use Rattle.cil_base.specs.Refusals.{Fails}
 use Rattle.cli_heaps.specs.Root as root
 use Rattle.cli_heaps.specs.Root.{strings, blobs, guids}
-use Rattle.cli_heaps.specs.Growth.{Growths}
-use Rattle.cli_heaps.specs.Written.{filled}
+use Rattle.heap_writer.specs.Growth.{HeapGrowths}
+use Rattle.cil_base.specs.Bytes.{number_bytes, padding, padded}
+use Rattle.heap_writer.specs.Written.{IsTooLong, Within, limit_tests}
 use Rattle.cli_tables.specs.declared.schema.Column.{Column}
 use Rattle.cli_tables.specs.declared.schema.Column.TheVariants.{U8, U16, U32}
 use Rattle.cli_tables.specs.declared.sizes.Sizes.{Sizes}
 use Rattle.cli_tables.specs.Schema.{columns_of}
-use Rattle.cli_tables.specs.Stream.{count_of, width_of, kind_of, sizes_of, rows_start}
+use Rattle.cli_tables.specs.Stream.{count_of, width_of, kind_of, sizes_of, rows_start, bytes_below}
 use Rattle.cli_tables.specs.Layout.{row_end}
 use Rattle.cli_tables.specs.TableRules.{has_other_heaps, has_unread}
 use Rattle.cli_tables.specs.Tables.{column_of, rows_of, rows_in, AreIn}
@@ -21,10 +22,6 @@ use Rattle.cli_tables.specs.Growth.{table_full}
 -- the pieces of the numbers from 0 on, so many of them, one behind the other
 unfoldable pub pieces : (ℕ → List ℕ) → ℕ → List ℕ
 pieces piece n = flat_map piece (range_with_len 0 n)
-
--- a number in so many bytes, the lowest first
-unfoldable pub number_bytes : ℕ → ℕ → List ℕ
-number_bytes width n = little_bytes width n
 
 -- how many rows each table has
 unfoldable pub counts_to : List (List (List ℕ)) → List ℕ
@@ -66,7 +63,14 @@ table_bytes sizes tables table = pieces (row_bytes sizes table (get_or tables ta
 -- ---- the stream
 
 unfoldable pub stream_to : List ℕ → Sizes → List (List (List ℕ)) → List ℕ
-stream_to old sizes tables = filled (header_bytes old sizes ++ pieces (count_bytes sizes) 64 ++ pieces (table_bytes sizes tables) 45)
+stream_to old sizes tables = padded 4 (header_bytes old sizes ++ pieces (count_bytes sizes) 64 ++ pieces (table_bytes sizes tables) 45)
+
+-- how many bytes that are
+abbrev pub unpadded_size : Sizes → ℕ
+unpadded_size sizes = 24 + 4 * count_ones (bits_of (has_rows sizes) 64) + bytes_below sizes 45
+
+abbrev pub size_to : Sizes → ℕ
+size_to sizes = unpadded_size sizes + padding 4 (unpadded_size sizes)
 
 -- the sizes tell the rows of the tables, and each number fits its column
 pub record Fit (sizes : Sizes) (tables : List (List (List ℕ))) : Type 0 where
@@ -94,16 +98,16 @@ abbrev pub is_many : ℕ → Bool
 is_many n = nat_lt (2 ^ 16 - 1) n
 
 -- the sizes that the written header tells: `#GUID` counts by entries, the other heaps by their bytes
-abbrev pub sizes_to : List ℕ → Growths → List (List (List ℕ)) → Sizes
+abbrev pub sizes_to : List ℕ → HeapGrowths → List (List (List ℕ)) → Sizes
 sizes_to meta grown tables = record {
   counts = counts_to tables;
-  wide_strings = is_many (length (filled (strings meta ++ grown.strings.added)));
+  wide_strings = is_many (length (padded 4 (strings meta ++ grown.strings.added)));
   wide_guids = is_many (length (guids meta) / 16);
-  wide_blobs = is_many (length (filled (blobs meta ++ grown.blobs.added)));
+  wide_blobs = is_many (length (padded 4 (blobs meta ++ grown.blobs.added)));
 }
 
 -- the stream in the written metadata
-abbrev pub stream_in : List ℕ → Growths → List (List (List ℕ)) → List ℕ
+abbrev pub stream_in : List ℕ → HeapGrowths → List (List (List ℕ)) → List ℕ
 stream_in meta grown tables = stream_to (root.tables meta) (sizes_to meta grown tables) tables
 
 abbrev pub is_index : Column → Bool
@@ -145,6 +149,14 @@ NoneFull tables = (table : ℕ) → rows_of tables table ≤ 2 ^ 24 - 1
 -- the refusal names a table that has
 abbrev pub IsOverfull : List (List (List ℕ)) → Refusal → Type 0
 IsOverfull tables r = (r ≡ table_full r.table) × (2 ^ 24 - 1 < rows_of tables r.table)
+
+-- what is refused: a table that is too long, or metadata that pass a limit
+abbrev pub IsRefused : List ℕ → HeapGrowths → List (List (List ℕ)) → Refusal → Type 0
+IsRefused meta grown tables r = IsOverfull tables r ⊎ (Fails (limit_tests meta grown (stream_in meta grown tables)) r ⊎ IsTooLong meta grown (stream_in meta grown tables) r)
+
+-- no limit is passed
+abbrev pub FitsLimits : List ℕ → HeapGrowths → List (List (List ℕ)) → Type 0
+FitsLimits meta grown tables = NoneFull tables × Within meta grown (stream_in meta grown tables)
 
 -- Module and Assembly have one row each
 abbrev pub AreOfOne : List (List (List ℕ)) → Type 0

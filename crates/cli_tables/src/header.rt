@@ -7,7 +7,8 @@ ghost use Rattle.cli_tables.specs.TableRules.{header_tests, has_unread, is_unrea
 
 use crate::schema::columns;
 use crate::sizes::{Sizes, heap_sizes_of, valid_of};
-use cil_base::{Refusal, Rule};
+use cil_base::tables::{ASSEMBLY, MODULE};
+use cil_base::{Place, Refusal, Rule};
 
 fn is_unread(valid: u64, table: u8) -> bool
     requires { table < 64 }
@@ -30,18 +31,6 @@ fn has_unread(stream: &[u8]) -> bool
     false
 }
 
-fn broken(assembly: u32, at: u32) -> Refusal
-    ensures { result ≡ record { rule = Rule.M3; assembly = assembly; table = 0; row = 0; at = at } }
-{
-    Refusal {
-        rule: Rule::M3,
-        assembly,
-        table: 0,
-        row: 0,
-        at,
-    }
-}
-
 /// The first rule that the header breaks; the stream begins at `offset` of the metadata.
 pub fn first_in_header(stream: &[u8], sizes: &Sizes, offset: u32, assembly: u32) -> Option<Refusal>
     requires whole { 24 ≤ length stream.now }
@@ -49,12 +38,13 @@ pub fn first_in_header(stream: &[u8], sizes: &Sizes, offset: u32, assembly: u32)
     requires near { offset + length stream.now < 2 ^ 32 }
     ensures { result ≡ first_of (header_tests stream.now offset assembly) }
 {
+    let place = Place::of_assembly(assembly);
     if heap_sizes_of(stream) >> 3 != 0 {
-        return Some(broken(assembly, offset + 6));
+        return Some(place.refusal(Rule::M3, offset + 6));
     }
-    let is_one = sizes.count(0x00) == 1 && sizes.count(0x20) == 1;
+    let is_one = sizes.count(MODULE) == 1 && sizes.count(ASSEMBLY) == 1;
     if has_unread(stream) || !is_one {
-        return Some(broken(assembly, offset + 8));
+        return Some(place.refusal(Rule::M3, offset + 8));
     }
     None
 }

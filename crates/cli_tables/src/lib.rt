@@ -13,6 +13,3 @@ mod written;
 pub use schema::{CodedIndex, Column, TABLE_COUNT, columns};
 pub use sizes::Sizes;
 pub use tables::Tables;
-
-#[cfg(test)]
-mod tests;

@@ -10,7 +10,7 @@ ghost use Rattle.cli_tables.specs.TableRules.{Broken, BrokenIn};
 use crate::rules::first_in_table;
 use crate::sizes::{Sizes, rows_start_of};
 use crate::table::Table;
-use cil_base::{Fault, Refusal, Rule};
+use cil_base::{Fault, Place, Rule};
 use cli_heaps::Heaps;
 use std::alloc::{AllocError, Global};
 
@@ -52,13 +52,12 @@ fn read_table(
         return Err(Fault::Refused(refusal));
     }
     if rows < count {
-        return Err(Fault::Refused(Refusal {
-            rule: Rule::M4,
+        let place = Place {
             assembly,
             table,
             row: rows + 1,
-            at: 0,
-        }));
+        };
+        return Err(Fault::Refused(place.refusal(Rule::M4, 0)));
     }
     Ok(read)
 }

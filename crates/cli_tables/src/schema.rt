@@ -2,8 +2,15 @@
 ghost use Rattle.std.specs.Prelude.{◌≡◌, ◌≤◌, length};
 ghost use Rattle.cli_tables.specs.Schema.{the_tables, columns_of, coded_tables, table_of_tag, tag_bits};
 
+use cil_base::tables::{
+    ASSEMBLY, ASSEMBLY_REF, DECL_SECURITY, EVENT, EXPORTED_TYPE, FIELD, FILE, GENERIC_PARAM,
+    GENERIC_PARAM_CONSTRAINT, INTERFACE_IMPL, MANIFEST_RESOURCE, MEMBER_REF, METHOD_DEF,
+    METHOD_SPEC, MODULE, MODULE_REF, PARAM, PROPERTY, STAND_ALONE_SIG, TYPE_DEF, TYPE_REF,
+    TYPE_SPEC,
+};
+
 /// An index into one of several tables, told by a tag in its low bits.
-#[derive(Clone, Copy, Debug, PartialEq, Eq)]
+#[derive(Clone, Copy)]
 pub enum CodedIndex {
     TypeDefOrRef,
     HasConstant,
@@ -21,7 +28,7 @@ pub enum CodedIndex {
 }
 
 /// What a column holds.
-#[derive(Clone, Copy, Debug, PartialEq, Eq)]
+#[derive(Clone, Copy)]
 pub enum Column {
     U8,
     U16,
@@ -57,8 +64,8 @@ static TABLES: [&[Column]; 45] = [
         StringIndex,
         StringIndex,
         Coded(TypeDefOrRef),
-        FirstRow(0x04),
-        FirstRow(0x06),
+        FirstRow(FIELD),
+        FirstRow(METHOD_DEF),
     ],
     // 03 is not read
     &[],
@@ -67,13 +74,13 @@ static TABLES: [&[Column]; 45] = [
     // 05 is not read
     &[],
     // 06 MethodDef
-    &[U32, U16, U16, StringIndex, BlobIndex, FirstRow(0x08)],
+    &[U32, U16, U16, StringIndex, BlobIndex, FirstRow(PARAM)],
     // 07 is not read
     &[],
     // 08 Param
     &[U16, U16, StringIndex],
     // 09 InterfaceImpl
-    &[Row(0x02), Coded(TypeDefOrRef)],
+    &[Row(TYPE_DEF), Coded(TypeDefOrRef)],
     // 0A MemberRef
     &[Coded(MemberRefParent), StringIndex, BlobIndex],
     // 0B Constant
@@ -89,35 +96,35 @@ static TABLES: [&[Column]; 45] = [
     // 0E DeclSecurity
     &[U16, Coded(HasDeclSecurity), BlobIndex],
     // 0F ClassLayout
-    &[U16, U32, Row(0x02)],
+    &[U16, U32, Row(TYPE_DEF)],
     // 10 FieldLayout
-    &[U32, Row(0x04)],
+    &[U32, Row(FIELD)],
     // 11 StandAloneSig
     &[BlobIndex],
     // 12 EventMap
-    &[Row(0x02), FirstRow(0x14)],
+    &[Row(TYPE_DEF), FirstRow(EVENT)],
     // 13 is not read
     &[],
     // 14 Event
     &[U16, StringIndex, Coded(TypeDefOrRef)],
     // 15 PropertyMap
-    &[Row(0x02), FirstRow(0x17)],
+    &[Row(TYPE_DEF), FirstRow(PROPERTY)],
     // 16 is not read
     &[],
     // 17 Property
     &[U16, StringIndex, BlobIndex],
     // 18 MethodSemantics
-    &[U16, Row(0x06), Coded(HasSemantics)],
+    &[U16, Row(METHOD_DEF), Coded(HasSemantics)],
     // 19 MethodImpl
-    &[Row(0x02), Coded(MethodDefOrRef), Coded(MethodDefOrRef)],
+    &[Row(TYPE_DEF), Coded(MethodDefOrRef), Coded(MethodDefOrRef)],
     // 1A ModuleRef
     &[StringIndex],
     // 1B TypeSpec
     &[BlobIndex],
     // 1C ImplMap
-    &[U16, Coded(MemberForwarded), StringIndex, Row(0x1A)],
+    &[U16, Coded(MemberForwarded), StringIndex, Row(MODULE_REF)],
     // 1D FieldRVA
-    &[U32, Row(0x04)],
+    &[U32, Row(FIELD)],
     // 1E is not read
     &[],
     // 1F is not read
@@ -151,9 +158,9 @@ static TABLES: [&[Column]; 45] = [
         BlobIndex,
     ],
     // 24 AssemblyRefProcessor
-    &[U32, Row(0x23)],
+    &[U32, Row(ASSEMBLY_REF)],
     // 25 AssemblyRefOS
-    &[U32, U32, U32, Row(0x23)],
+    &[U32, U32, U32, Row(ASSEMBLY_REF)],
     // 26 File
     &[U32, StringIndex, BlobIndex],
     // 27 ExportedType
@@ -161,69 +168,80 @@ static TABLES: [&[Column]; 45] = [
     // 28 ManifestResource
     &[U32, U32, StringIndex, Coded(Implementation)],
     // 29 NestedClass
-    &[Row(0x02), Row(0x02)],
+    &[Row(TYPE_DEF), Row(TYPE_DEF)],
     // 2A GenericParam
     &[U16, U16, Coded(TypeOrMethodDef), StringIndex],
     // 2B MethodSpec
     &[Coded(MethodDefOrRef), BlobIndex],
     // 2C GenericParamConstraint
-    &[Row(0x2A), Coded(TypeDefOrRef)],
+    &[Row(GENERIC_PARAM), Coded(TypeDefOrRef)],
 ];
 
-static TYPE_DEF_OR_REF: [Option<u8>; 3] = [Some(0x02), Some(0x01), Some(0x1B)];
+static TYPE_DEF_OR_REF: [Option<u8>; 3] = [Some(TYPE_DEF), Some(TYPE_REF), Some(TYPE_SPEC)];
 
-static HAS_CONSTANT: [Option<u8>; 3] = [Some(0x04), Some(0x08), Some(0x17)];
+static HAS_CONSTANT: [Option<u8>; 3] = [Some(FIELD), Some(PARAM), Some(PROPERTY)];
 
 static HAS_CUSTOM_ATTRIBUTE: [Option<u8>; 22] = [
-    Some(0x06),
-    Some(0x04),
-    Some(0x01),
-    Some(0x02),
-    Some(0x08),
-    Some(0x09),
-    Some(0x0A),
-    Some(0x00),
-    Some(0x0E),
-    Some(0x17),
-    Some(0x14),
-    Some(0x11),
-    Some(0x1A),
-    Some(0x1B),
-    Some(0x20),
-    Some(0x23),
-    Some(0x26),
-    Some(0x27),
-    Some(0x28),
-    Some(0x2A),
-    Some(0x2C),
-    Some(0x2B),
+    Some(METHOD_DEF),
+    Some(FIELD),
+    Some(TYPE_REF),
+    Some(TYPE_DEF),
+    Some(PARAM),
+    Some(INTERFACE_IMPL),
+    Some(MEMBER_REF),
+    Some(MODULE),
+    Some(DECL_SECURITY),
+    Some(PROPERTY),
+    Some(EVENT),
+    Some(STAND_ALONE_SIG),
+    Some(MODULE_REF),
+    Some(TYPE_SPEC),
+    Some(ASSEMBLY),
+    Some(ASSEMBLY_REF),
+    Some(FILE),
+    Some(EXPORTED_TYPE),
+    Some(MANIFEST_RESOURCE),
+    Some(GENERIC_PARAM),
+    Some(GENERIC_PARAM_CONSTRAINT),
+    Some(METHOD_SPEC),
 ];
 
-static HAS_FIELD_MARSHAL: [Option<u8>; 2] = [Some(0x04), Some(0x08)];
+static HAS_FIELD_MARSHAL: [Option<u8>; 2] = [Some(FIELD), Some(PARAM)];
 
-static HAS_DECL_SECURITY: [Option<u8>; 3] = [Some(0x02), Some(0x06), Some(0x20)];
+static HAS_DECL_SECURITY: [Option<u8>; 3] = [Some(TYPE_DEF), Some(METHOD_DEF), Some(ASSEMBLY)];
 
 static MEMBER_REF_PARENT: [Option<u8>; 5] = [
-    Some(0x02),
-    Some(0x01),
-    Some(0x1A),
-    Some(0x06),
-    Some(0x1B),
+    Some(TYPE_DEF),
+    Some(TYPE_REF),
+    Some(MODULE_REF),
+    Some(METHOD_DEF),
+    Some(TYPE_SPEC),
 ];
 
-static HAS_SEMANTICS: [Option<u8>; 2] = [Some(0x14), Some(0x17)];
+static HAS_SEMANTICS: [Option<u8>; 2] = [Some(EVENT), Some(PROPERTY)];
 
-static METHOD_DEF_OR_REF: [Option<u8>; 2] = [Some(0x06), Some(0x0A)];
+static METHOD_DEF_OR_REF: [Option<u8>; 2] = [Some(METHOD_DEF), Some(MEMBER_REF)];
 
-static MEMBER_FORWARDED: [Option<u8>; 2] = [Some(0x04), Some(0x06)];
+static MEMBER_FORWARDED: [Option<u8>; 2] = [Some(FIELD), Some(METHOD_DEF)];
 
-static IMPLEMENTATION: [Option<u8>; 3] = [Some(0x26), Some(0x23), Some(0x27)];
+static IMPLEMENTATION: [Option<u8>; 3] = [Some(FILE), Some(ASSEMBLY_REF), Some(EXPORTED_TYPE)];
 
-static CUSTOM_ATTRIBUTE_TYPE: [Option<u8>; 5] = [None, None, Some(0x06), Some(0x0A), None];
+static CUSTOM_ATTRIBUTE_TYPE: [Option<u8>; 5] = [
+    None,
+    None,
+    Some(METHOD_DEF),
+    Some(MEMBER_REF),
+    None,
+];
 
-static RESOLUTION_SCOPE: [Option<u8>; 4] = [Some(0x00), Some(0x1A), Some(0x23), Some(0x01)];
+static RESOLUTION_SCOPE: [Option<u8>; 4] = [
+    Some(MODULE),
+    Some(MODULE_REF),
+    Some(ASSEMBLY_REF),
+    Some(TYPE_REF),
+];
 
-static TYPE_OR_METHOD_DEF: [Option<u8>; 2] = [Some(0x02), Some(0x06)];
+static TYPE_OR_METHOD_DEF: [Option<u8>; 2] = [Some(TYPE_DEF), Some(METHOD_DEF)];
 
 /// The columns of a table; none where the table is not read.
 #[tactic(auto, unfolding(crate::specs::Schema::the_tables))]

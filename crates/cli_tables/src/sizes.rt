@@ -10,7 +10,7 @@ use byteorder::{ByteOrder, LittleEndian};
 use cil_base::read_u32_at;
 
 /// How many rows each table has, and which heaps have indexes of four bytes.
-#[derive(Clone, Copy, Debug)]
+#[derive(Clone, Copy)]
 pub struct Sizes {
     pub counts: [u32; 64],
     pub wide_strings: bool,
@@ -162,7 +162,8 @@ impl Sizes {
 
     /// How many bytes all rows of a table take.
     pub fn table_bytes(&self, table: u8) -> usize
-        ensures { result ≡ count_of self.now table * row_width self.now table }
+        ensures size { result ≡ count_of self.now table * row_width self.now table }
+        ensures small { result ≤ 2 ^ 38 }
     {
         self.count(table) as usize * self.row_width(table)
     }

@@ -14,7 +14,7 @@ use std::alloc::{AllocError, Global};
 use std::marker::Model;
 
 /// A table's columns, each with one number a row.
-#[derive(Debug, Drop)]
+#[derive(Drop)]
 pub struct Table {
     columns: Vec<U32s>,
 }

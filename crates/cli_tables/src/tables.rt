@@ -1,7 +1,7 @@
 // The tables of an assembly (ECMA-335, II.22).
 ghost use Rattle.std.specs.Prelude.{◌≡◌, ◌⊎◌, ℕ, ◌+◌, ◌-◌, ◌<◌, ◌≤◌, ◌^◌, ◌++◌, ◌↔◌, length, map, IsSome, MatchOption, IfOk, OnOk, OnErr, true};
-ghost use Rattle.cil_base.specs.Refusals.{First, NoneBroken, InTurn, Fails, OnRefused};
-ghost use Rattle.cli_heaps.specs.Growth.{Growths};
+ghost use Rattle.cil_base.specs.Refusals.{First, NoneBroken, InTurn, Fails, OnRefused, OnMemory};
+ghost use Rattle.heap_writer.specs.Growth.{HeapGrowths};
 ghost use Rattle.cli_heaps.specs.Root.{tables};
 ghost use Rattle.cli_tables.specs.TableRules.{HeaderBroken, RowsBroken};
 ghost use Rattle.lane_cols.specs.Places.{places};
@@ -11,24 +11,27 @@ ghost use Rattle.cli_tables.specs.Stream.{kind_of};
 ghost use Rattle.cli_tables.specs.Layout.{tables_in};
 ghost use Rattle.cli_tables.specs.Growth.{table_full};
 ghost use Rattle.cli_tables.specs.declared.sizes.Sizes.{Sizes};
-ghost use Rattle.cli_tables.specs.Written.{counts_to, is_many, sizes_to, stream_in, column_fits, table_fits, indexes_fit, row_fits, Grows, NoneFull, IsOverfull, AreOfOne, Holds};
-ghost use Rattle.cli_heaps.specs.Written.{filled, parts, written, GrewFrom, IsWritten, EntriesRead, limit_tests};
+ghost use Rattle.cli_tables.specs.Written.{counts_to, is_many, sizes_to, stream_in, column_fits, table_fits, indexes_fit, row_fits, Grows, NoneFull, IsRefused, FitsLimits, AreOfOne, Holds};
+ghost use Rattle.cil_base.specs.Bytes.{padded};
+ghost use Rattle.heap_writer.specs.Written.{parts, written_root, GrewFrom, IsWritten, EntriesRead, limit_tests};
 
 use crate::header::first_in_header;
 use crate::reading::{blank_tables, read_tables};
 use crate::schema::{TABLE_COUNT, columns};
 use crate::sizes::{Sizes, read_sizes, rows_start_of};
 use crate::table::Table;
-use crate::written::{fits_width, is_index, write_stream};
-use cil_base::{Bytes, Fault, Refusal, Rule, U32s};
-use cli_heaps::{HeapBuilder, Heaps, write_metadata};
+use crate::written::{fits_width, is_index, stream_size, write_stream};
+use cil_base::limits::ROW_LIMIT;
+use cil_base::{Bytes, Fault, Place, Refusal, Rule, U32s};
+use cli_heaps::Heaps;
+use heap_writer::{HeapBuilder, first_limit, write_metadata};
 use lane_cols::places_of;
 use std::alloc::{AllocError, Global};
 use std::marker::Model;
 
 /// The tables, each as its columns. Rows count from 1, columns from 0, and a coded index is kept
 /// as the number that is written.
-#[derive(Debug, Drop)]
+#[derive(Drop)]
 pub struct Tables {
     tables: Vec<Table>,
 }
@@ -52,7 +55,7 @@ impl Tables {
         ensures exact { IfOk result (λ t. t ≡ tables_in (tables heaps.now.bytes)) }
         ensures shaped { IfOk result IsShaped }
         // They can be written again, whatever is added to the heaps.
-        ensures writable { IfOk result (λ ts. (grown : Growths) → indexes_fit (sizes_to heaps.now.bytes grown ts) ts ≡ true) }
+        ensures writable { IfOk result (λ ts. (grown : HeapGrowths) → indexes_fit (sizes_to heaps.now.bytes grown ts) ts ≡ true) }
         ensures header { OnOk result (NoneBroken (HeaderBroken heaps.now.bytes assembly)) }
         ensures accepted { OnOk result (NoneBroken (RowsBroken heaps.now.bytes assembly)) }
         ensures refused { OnRefused result (InTurn (HeaderBroken heaps.now.bytes assembly) (First (RowsBroken heaps.now.bytes assembly))) }
@@ -139,11 +142,12 @@ impl Tables {
         ensures room { OnOk result (rows_of self.old table < 2 ^ 24 - 1) }
         ensures writable { OnOk result ((old new : Sizes) → Grows old new → indexes_fit old self.old ≡ true → row_fits new table cells.now ≡ true → indexes_fit new self.new ≡ true) }
         ensures full { OnRefused result (λ r. (r ≡ table_full table) × (2 ^ 24 - 1 ≤ rows_of self.old table)) }
+        ensures memory { OnMemory result (rows_of self.old table < 2 ^ 24 - 1) }
         ensures err { OnErr result (self.new ≡ self.old) }
     {
         let rows = self.rows(table);
-        if rows >= MOST_ROWS {
-            return Err(Fault::Refused(full(table)));
+        if rows >= ROW_LIMIT {
+            return Err(Fault::Refused(table_full(table)));
         }
         match self.push(table, cells) {
             Ok(()) => Ok(rows + 1),
@@ -162,7 +166,8 @@ impl Tables {
 
     /// The whole metadata of these tables, with the heaps that have grown: columns are as wide as
     /// the rows and heaps that are written make them. The version text and unknown streams stay. L5
-    /// where a table has over 2^24 - 1 rows (II.24.2.6), or as `write_metadata` says.
+    /// where a table has over 2^24 - 1 rows (II.24.2.6), or L5 and L6 as `first_limit` says; the
+    /// limits are tested before anything is allocated.
     pub fn write(
         &self,
         alloc: Global,
@@ -172,21 +177,27 @@ impl Tables {
         requires grew { GrewFrom heaps.now.bytes grown.now }
         requires fit { indexes_fit (sizes_to heaps.now.bytes grown.now self.now) self.now ≡ true }
         ensures written { IfOk result (IsWritten heaps.now.bytes grown.now (stream_in heaps.now.bytes grown.now self.now)) }
-        ensures bytes { IfOk result (λ new. new ≡ written heaps.now.bytes (parts heaps.now.bytes grown.now (stream_in heaps.now.bytes grown.now self.now))) }
+        ensures bytes { IfOk result (λ new. new ≡ written_root heaps.now.bytes (parts heaps.now.bytes grown.now (stream_in heaps.now.bytes grown.now self.now))) }
         ensures entries { IfOk result (EntriesRead heaps.now.bytes grown.now) }
         ensures cells { IfOk result (λ new. AreIn (tables new) self.now) }
         ensures holds { IfOk result (λ new. Holds (tables heaps.now.bytes) (sizes_to heaps.now.bytes grown.now self.now) self.now (tables new)) }
         ensures header { IfOk result (λ new. AreOfOne self.now → (assembly : ℕ) → NoneBroken (HeaderBroken new assembly)) }
         ensures room { OnOk result (NoneFull self.now) }
         ensures limits { OnOk result (NoneBroken (Fails (limit_tests heaps.now.bytes grown.now (stream_in heaps.now.bytes grown.now self.now)))) }
-        ensures refused { OnRefused result (λ r. IsOverfull self.now r ⊎ Fails (limit_tests heaps.now.bytes grown.now (stream_in heaps.now.bytes grown.now self.now)) r) }
+        ensures short { OnOk result (length (written_root heaps.now.bytes (parts heaps.now.bytes grown.now (stream_in heaps.now.bytes grown.now self.now))) ≤ 2 ^ 27) }
+        ensures refused { OnRefused result (IsRefused heaps.now.bytes grown.now self.now) }
+        ensures memory { OnMemory result (FitsLimits heaps.now.bytes grown.now self.now) }
     {
         if let Some(table) = self.first_full() {
-            return Err(Fault::Refused(full(table)));
+            return Err(Fault::Refused(table_full(table)));
         }
         let sizes = self.written_sizes(heaps, grown);
         let old = heaps.tables();
-        let stream = write_stream(alloc, old, &sizes, self.tables.as_slice())?;
+        let tables = self.tables.as_slice();
+        if let Some(refusal) = first_limit(heaps, grown, stream_size(&sizes)) {
+            return Err(Fault::Refused(refusal));
+        }
+        let stream = write_stream(alloc, old, &sizes, tables)?;
         write_metadata(alloc, heaps, grown, &stream)
     }
 
@@ -222,7 +233,7 @@ impl Tables {
     {
         let _ = &self.tables;
         for table in 0..TABLE_COUNT as u8 {
-            if self.rows(table) > MOST_ROWS {
+            if self.rows(table) > ROW_LIMIT {
                 return Some(table);
             }
         }
@@ -248,7 +259,7 @@ impl Tables {
         Sizes {
             counts,
             wide_strings: is_large(heaps.strings(), grown.strings_added()),
-            wide_guids: heaps.guids().len() / 16 > MOST_PLACES,
+            wide_guids: heaps.guids().len() / 16 > SHORT_OFFSETS,
             wide_blobs: is_large(heaps.blobs(), grown.blobs_added()),
         }
     }
@@ -263,27 +274,23 @@ impl Tables {
     }
 }
 
-/// The most rows that a written table may have.
-const MOST_ROWS: u32 = 0xFF_FFFF;
+/// The most offsets that two bytes tell.
+const SHORT_OFFSETS: usize = 0xFFFF;
 
-/// The most places that two bytes tell.
-const MOST_PLACES: usize = 0xFFFF;
-
-/// Whether a heap has more places once it is filled to a multiple of 4.
+/// Whether a heap has more places once it is padded 4 to a multiple of 4.
 fn is_large(old: &[u8], added: &[u8]) -> bool
-    ensures { result ≡ is_many (length (filled (old.now ++ added.now))) }
+    ensures { result ≡ is_many (length (padded 4 (old.now ++ added.now))) }
 {
-    old.len() + added.len() > MOST_PLACES - 3
+    old.len() + added.len() > SHORT_OFFSETS - 3
 }
 
-fn full(table: u8) -> Refusal
+fn table_full(table: u8) -> Refusal
     ensures { result ≡ table_full table }
 {
-    Refusal {
-        rule: Rule::L5,
+    let place = Place {
         assembly: 0,
         table,
         row: 0,
-        at: MOST_ROWS + 1,
-    }
+    };
+    place.refusal(Rule::L5, ROW_LIMIT + 1)
 }

@@ -4,12 +4,13 @@ ghost use Rattle.std.specs.List.{list_all};
 ghost use Rattle.cli_tables.specs.Schema.{columns_of};
 ghost use Rattle.cli_tables.specs.Stream.{count_of, is_width};
 ghost use Rattle.cli_tables.specs.Tables.{IsShaped, rows_of};
-ghost use Rattle.cli_tables.specs.Written.{pieces, number_bytes, has_rows, bits_of, heap_bits, header_bytes, count_bytes, row_bytes, table_bytes, stream_to, Fit, Holds, is_index};
-ghost use Rattle.cli_heaps.specs.Written.{filled};
+ghost use Rattle.cli_tables.specs.Written.{pieces, has_rows, bits_of, heap_bits, header_bytes, count_bytes, row_bytes, table_bytes, stream_to, size_to, Fit, Holds, is_index};
+ghost use Rattle.cil_base.specs.Bytes.{padding, padded};
 
 use crate::schema::{Column, TABLE_COUNT, columns};
 use crate::sizes::Sizes;
 use crate::table::Table;
+use cil_base::{padding, push_number, push_padding, push_u64};
 use lane_cols::all_at_most;
 use std::alloc::{AllocError, Global};
 
@@ -30,17 +31,6 @@ pub fn fits_width(cells: &[u32], width: u8) -> bool
         2 => all_at_most(cells, 0xFFFF),
         _ => true,
     }
-}
-
-/// Appends the lowest bytes of a number, the lowest first.
-#[tactic(auto, unfolding(crate::specs::Written::number_bytes))]
-fn push_number(out: &mut Vec<u8>, width: u8, value: u32) -> Result<(), AllocError>
-    requires { width ≤ 4 }
-    ensures { OnOk result (out.new.items ≡ out.old.items ++ number_bytes width value) }
-{
-    let bytes = value.to_le_bytes();
-    out.extend_from_slice(&bytes[..usize::from(width)])?;
-    Ok(())
 }
 
 /// The bits of Valid: the tables that have rows.
@@ -64,7 +54,7 @@ fn heap_bits(sizes: &Sizes) -> u8
 }
 
 /// The header up to the counts, with the versions and the sorted tables of an old stream.
-#[tactic(auto, unfolding(crate::specs::Written::header_bytes, crate::specs::Written::number_bytes))]
+#[tactic(auto, unfolding(crate::specs::Written::header_bytes))]
 fn header(alloc: Global, old: &[u8], sizes: &Sizes) -> Result<Vec<u8>, AllocError>
     requires { 24 ≤ length old.now }
     ensures { IfOk result (λ v. v.items ≡ header_bytes old.now sizes.now) }
@@ -72,7 +62,7 @@ fn header(alloc: Global, old: &[u8], sizes: &Sizes) -> Result<Vec<u8>, AllocErro
     let mut out = Vec::from_slice(alloc, &old[..6])?;
     out.push(heap_bits(sizes))?;
     out.push(old[7])?;
-    out.extend_from_slice(&valid_bits(sizes).to_le_bytes())?;
+    push_u64(&mut out, valid_bits(sizes))?;
     out.extend_from_slice(&old[16..24])?;
     Ok(out)
 }
@@ -132,15 +122,15 @@ fn push_tables(out: &mut Vec<u8>, sizes: &Sizes, tables: &[Table]) -> Result<(),
     Ok(())
 }
 
-/// Appends zeros up to a multiple of 4.
-fn fill(out: &mut Vec<u8>) -> Result<(), AllocError>
-    ensures { OnOk result (out.new.items ≡ filled out.old.items) }
+/// How many bytes the stream of tables of these sizes has.
+pub fn stream_size(sizes: &Sizes) -> usize
+    ensures { result ≡ size_to sizes.now }
 {
-    let gap = (4 - out.len() % 4) % 4;
-    for _k in 0..gap {
-        out.push(0)?;
+    let mut size = 24 + 4 * valid_bits(sizes).count_ones() as usize;
+    for table in 0..TABLE_COUNT as u8 {
+        size += sizes.table_bytes(table);
     }
-    Ok(())
+    size + padding(4, size)
 }
 
 /// The stream `#~` of these tables, in columns as wide as the sizes make them. What its header
@@ -161,6 +151,6 @@ pub fn write_stream(
     let mut out = header(alloc, old, sizes)?;
     push_counts(&mut out, sizes)?;
     push_tables(&mut out, sizes, tables)?;
-    fill(&mut out)?;
+    push_padding(&mut out, 4)?;
     Ok(out)
 }

@@ -9,6 +9,3 @@ pub use places::places_of;
 
 /// The entries that are compared at once.
 const LANES: usize = 8;
-
-#[cfg(test)]
-mod tests;

@@ -12,8 +12,8 @@ returns-in-Some-clause-refused c =
 
 pub returns-then-rows-count-clause-refused : goal.returns-then-rows-count-clause-refused
 returns-then-rows-count-clause-refused c =
-    cut c.args.heaps.now.bytes c.args.stream.now c.args.sizes.now c.args.assembly c.args.table c.args.start c.whole_rows-rows.result c.row_width.result c.in_ok-read.read
-    c.requires.sizes c.row_width.ensures.width c.requires.place c.requires.near c.whole_rows-rows.ensures.fit (omega (arith, c.if-rows-count.true, c.count-count.ensures)) (c.whole_rows-rows.ensures.most c.if-rows-count.true) c.in_ok-read.ensures c.in_default.ensures
+    rw c.refusal.ensures (cut c.args.heaps.now.bytes c.args.stream.now c.args.sizes.now c.args.assembly c.args.table c.args.start c.whole_rows-rows.result c.row_width.result c.in_ok-read.read
+    c.requires.sizes c.row_width.ensures.width c.requires.place c.requires.near c.whole_rows-rows.ensures.fit (omega (arith, c.if-rows-count.true, c.count-count.ensures)) (c.whole_rows-rows.ensures.most c.if-rows-count.true) c.in_ok-read.ensures c.in_default.ensures)
 
 pub returns-clause-clean : goal.returns-clause-clean
 returns-clause-clean c =

@@ -18,7 +18,7 @@ returns-in-Err-clause-refused c = refused_of_all c.args.heaps.now.bytes c.args.s
 pub overflow_add-start : goal.overflow_add-start
 overflow_add-start c =
     let e : c.loop-table.start + c.table_bytes-start.result ≤ length c.args.stream.now =
-    next_within c.args.stream.now c.args.sizes.now c.loop-table.table c.loop-table.start c.table_bytes-start.result c.requires.sizes c.loop-table.invariant.place c.table_bytes-start.ensures c.in-Ok.ensures.within in
+    next_within c.args.stream.now c.args.sizes.now c.loop-table.table c.loop-table.start c.table_bytes-start.result c.requires.sizes c.loop-table.invariant.place c.table_bytes-start.ensures.size c.in-Ok.ensures.within in
     omega (arith, e, c.requires.short)
 
 pub loop-table-preserved : goal.loop-table-preserved
@@ -26,8 +26,8 @@ loop-table-preserved c =
     let t = c.loop-table.table in
     record {
       read = c.in_ok-push.ensures ∙ tables_push c.args.stream.now t c.loop-table.tables.items c.in-Ok.read c.loop-table.invariant.read c.in-Ok.ensures.ok;
-      place = next_start c.args.stream.now c.args.sizes.now t c.loop-table.start c.table_bytes-start.result c.requires.sizes c.loop-table.invariant.place c.table_bytes-start.ensures;
-      near = next_within c.args.stream.now c.args.sizes.now t c.loop-table.start c.table_bytes-start.result c.requires.sizes c.loop-table.invariant.place c.table_bytes-start.ensures c.in-Ok.ensures.within;
+      place = next_start c.args.stream.now c.args.sizes.now t c.loop-table.start c.table_bytes-start.result c.requires.sizes c.loop-table.invariant.place c.table_bytes-start.ensures.size;
+      near = next_within c.args.stream.now c.args.sizes.now t c.loop-table.start c.table_bytes-start.result c.requires.sizes c.loop-table.invariant.place c.table_bytes-start.ensures.size c.in-Ok.ensures.within;
       clean = none_below_more c.args.heaps.now.bytes c.args.stream.now c.args.assembly t c.loop-table.invariant.clean c.in-Ok.ensures.clean;
     }
 

@@ -3,7 +3,8 @@ use Rattle.std.specs.declared.alloc.Global.{Global}
 use Rattle.std.proofs.lemmas.Bool.{lt-ltb, le-ltb}
 use Rattle.std.proofs.lemmas.List.{append-nil}
 use Rattle.cli_tables.specs.Stream.{count_of}
-use Rattle.cli_tables.specs.Written.{number_bytes, count_bytes}
+use Rattle.cil_base.specs.Bytes.{number_bytes}
+use Rattle.cli_tables.specs.Written.{count_bytes}
 use Rattle.cli_tables.proofs.PieceLaws.{pieces_begun, pieces_pushed}
 use Rattle.cli_tables.proofs.written.push_counts.Goals as goal
 use Rattle.cli_tables.proofs.written.push_counts.Goals.{then-count-gt0+in_ok-push_number, else-count-gt0}

@@ -1,6 +1,7 @@
 use Rattle.std.proofs.Common.{◌≡◌, ℕ, List, get_or, ◌∙◌, ap}
 use Rattle.cli_tables.specs.Stream.{width_of, kind_of}
-use Rattle.cli_tables.specs.Written.{number_bytes, cell_bytes}
+use Rattle.cil_base.specs.Bytes.{number_bytes}
+use Rattle.cli_tables.specs.Written.{cell_bytes}
 use Rattle.cli_tables.proofs.LayoutLaws.{width_read}
 use Rattle.cli_tables.proofs.PieceLaws.{pieces_begun, pieces_pushed}
 use Rattle.cli_tables.proofs.written.push_row.Goals as goal

@@ -1,4 +1,4 @@
-use Rattle.std.proofs.Common.{◌≡◌, subst, sym, ap, ◌∙◌}
+use Rattle.std.proofs.Common.{subst, sym, ap, ◌∙◌}
 use Rattle.cli_tables.specs.Tables.{rows_of, IsShaped}
 use Rattle.cli_tables.proofs.BlankLaws.{no_rows, blank_shape}
 use Rattle.cli_tables.proofs.tables.Tables.blank.Goals as goal

@@ -1,0 +1,11 @@
+pub mod ReadLaws
+pub mod UserStringLaws
+pub mod GrowthLaws
+pub mod PieceLaws
+pub mod PlacedLaws
+pub mod OnceLaws
+pub mod RuleLaws
+pub mod FrontLaws
+pub mod PartLaws
+pub mod WrittenLaws
+pub mod LimitLaws
