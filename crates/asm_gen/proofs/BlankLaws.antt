@@ -1,15 +1,16 @@
 -- The blank metadata breaks no rule.
-use Rattle.std.proofs.Common.{◌≡◌, ℕ, Bool, true, false, List, [], ◌∷◌, None, refl, inl, inr}
+use Rattle.std.proofs.Common.{◌≡◌, ℕ, false, List, [], ◌∷◌, None, refl, inl, inr}
 use lib.Count.{ones}
 use Rattle.cil_base.specs.declared.refusal.Refusal.{Refusal}
 use Rattle.cil_base.specs.Numbers.{num}
+use Rattle.cil_base.specs.Bytes.{number_bytes}
 use Rattle.cil_base.specs.Refusals.{Test, Fails, First, first_of}
 use Rattle.pe_image.proofs.SectionLaws.{none_of}
 use Rattle.cli_heaps.specs.RootRules.{tests, Broken}
 use Rattle.asm_gen.specs.Blank.{blank}
 
 none_fails : (a : ℕ) → first_of (tests blank a) ≡ None
-unfolding blank num ones
+unfolding blank number_bytes num ones
 none_fails a = refl
 
 fails_not : (t : Test) (ts : List Test) (r : Refusal) → (t.fails ≡ false) × (first_of ts ≡ None) → (Fails ts r → ⊥) → Fails (t ∷ ts) r → ⊥

@@ -1,18 +1,17 @@
 -- The header fields of a sample's image.
-use Rattle.std.proofs.Common.{◌≡◌, ℕ, ◌+◌, ◌*◌, ◌^◌, ◌<◌, ◌≤◌, List, [], ◌∷◌, ◌++◌, length, take, drop, refl, sym, ap, ◌∙◌, arith}
-use Rattle.byteorder.specs.Endian.{little_number, little_bytes}
-use Rattle.byteorder.specs.Numbers.{little_number-reads_back}
+use Rattle.std.proofs.Common.{◌≡◌, ℕ, ◌+◌, ◌^◌, ◌<◌, ◌≤◌, List, ◌++◌, length, drop, refl, arith}
 use Rattle.cil_base.specs.Numbers.{num}
 use Rattle.pe_image.specs.declared.headers.Headers.{Headers}
 use Rattle.pe_image.specs.declared.section.Section.{Section}
 use Rattle.pe_image.specs.Headers.{headers_of, section_alignment, file_alignment, headers_size, cli_rva}
 use Rattle.pe_image.specs.Sections.{section_at}
-use Rattle.pe_image.specs.Written.{two_bytes, four_bytes}
+use Rattle.cil_base.specs.Bytes.{number_bytes}
+use Rattle.cil_base.proofs.PieceLaws.{num_back}
 use Rattle.std.specs.List.{concat}
 use Rattle.asm_gen.specs.Layout.{code_address, cli_header, headers, optional_header, section_table, text_size, text_raw, resource_address, relocation_address, resource_at, relocation_at, file_size}
 
 pub long : (len entry : ℕ) → length (headers len entry) ≡ 0x200
-unfolding headers optional_header section_table four_bytes two_bytes
+unfolding headers optional_header section_table number_bytes
 long len entry = refl
 
 -- where the parts of the headers stand
@@ -20,7 +19,7 @@ abbrev pub stands : Headers
 stands = record { pe = 0x80; directories = 0xF8; sections = 0x178; count = 3 }
 
 pub stands_there : (len entry : ℕ) (t : List ℕ) → headers_of (headers len entry ++ t) ≡ stands
-unfolding headers optional_header section_table four_bytes two_bytes num
+unfolding headers optional_header section_table number_bytes num
 stands_there len entry t = refl
 
 -- the fields that are the same in each image
@@ -35,15 +34,14 @@ pub record Fields (b : List ℕ) : Type 0 where
   pub cli : cli_rva b stands ≡ 0x2000
 
 pub fields : (len entry : ℕ) (t : List ℕ) → Fields (headers len entry ++ t)
-unfolding headers optional_header section_table four_bytes two_bytes num
+unfolding headers optional_header section_table number_bytes num
 fields len entry t = record { mz = refl; signature = refl; magic = refl; size = refl; sections = refl; file = refl; headers = refl; cli = refl }
 
 -- ---- the sections
 
--- a number that stands at a place
-reads : (b : List ℕ) (at n : ℕ) → n < 2 ^ 32 → drop at b ≡ four_bytes n ++ drop (at + 4) b → num b at 4 ≡ n
-unfolding num four_bytes
-reads b at n small e = ap (little_number 4) e ∙ little_number-reads_back 4 n (drop (at + 4) b) small
+-- a number that stands at an offset
+reads : (b : List ℕ) (at n : ℕ) → n < 2 ^ 32 → drop at b ≡ number_bytes 4 n ++ drop (at + 4) b → num b at 4 ≡ n
+reads b at n small e = num_back 4 b at n (drop (at + 4) b) e small
 
 -- a section header whose fields these are
 is_section : (b : List ℕ) (at size address raw raw_at : ℕ) → num b (at + 8) 4 ≡ size → num b (at + 12) 4 ≡ address → num b (at + 16) 4 ≡ raw → num b (at + 20) 4 ≡ raw_at → section_at b at ≡ record { virtual_size = size; address = address; raw_size = raw; raw_at = raw_at }
@@ -59,21 +57,21 @@ abbrev pub relocation_section : ℕ → Section
 relocation_section len = record { virtual_size = 0x200; address = relocation_address len; raw_size = 0x200; raw_at = relocation_at len }
 
 pub text : (len entry : ℕ) (t : List ℕ) → file_size len ≤ 2 ^ 27 → section_at (headers len entry ++ t) 0x178 ≡ text_section len
-unfolding headers optional_header section_table four_bytes two_bytes
+unfolding headers optional_header section_table number_bytes
 text len entry t small =
     let b = headers len entry ++ t in
     is_section b 0x178 (text_size len) 0x2000 (text_raw len) 0x200
     (reads b 0x180 (text_size len) (omega arith) refl) (reads b 0x184 0x2000 (omega arith) refl) (reads b 0x188 (text_raw len) (omega arith) refl) (reads b 0x18C 0x200 (omega arith) refl)
 
 pub resource : (len entry : ℕ) (t : List ℕ) → file_size len ≤ 2 ^ 27 → section_at (headers len entry ++ t) 0x1A0 ≡ resource_section len
-unfolding headers optional_header section_table four_bytes two_bytes
+unfolding headers optional_header section_table number_bytes
 resource len entry t small =
     let b = headers len entry ++ t in
     is_section b 0x1A0 0x200 (resource_address len) 0x200 (resource_at len)
     (reads b 0x1A8 0x200 (omega arith) refl) (reads b 0x1AC (resource_address len) (omega arith) refl) (reads b 0x1B0 0x200 (omega arith) refl) (reads b 0x1B4 (resource_at len) (omega arith) refl)
 
 pub relocation : (len entry : ℕ) (t : List ℕ) → file_size len ≤ 2 ^ 27 → section_at (headers len entry ++ t) 0x1C8 ≡ relocation_section len
-unfolding headers optional_header section_table four_bytes two_bytes
+unfolding headers optional_header section_table number_bytes
 relocation len entry t small =
     let b = headers len entry ++ t in
     is_section b 0x1C8 0x200 (relocation_address len) 0x200 (relocation_at len)
@@ -88,7 +86,7 @@ pub record CliFields (b : List ℕ) (rva len entry : ℕ) : Type 0 where
   pub entry_is : num b 0x214 4 ≡ entry
 
 pub cli_fields : (len entry code metadata : ℕ) (t : List ℕ) → code_address + code < 2 ^ 32 → metadata < 2 ^ 32 → entry < 2 ^ 32 → CliFields (headers len entry ++ (concat (cli_header code metadata entry) ++ t)) (code_address + code) metadata entry
-unfolding headers optional_header section_table four_bytes two_bytes
+unfolding headers optional_header section_table number_bytes
 cli_fields len entry code metadata t c m e =
     let b = headers len entry ++ (concat (cli_header code metadata entry) ++ t) in
     record {

@@ -1,25 +1,24 @@
 -- A sample's image reads back as what it was made of.
-use Rattle.std.proofs.Common.{◌≡◌, ℕ, zero, suc, ◌+◌, ◌-◌, ◌*◌, ◌^◌, ◌<◌, ◌≤◌, max, Bool, true, false, cond, leb, ltb, not, ◌||◌, ◌&&◌, List, [], ◌∷◌, ◌++◌, length, take, drop, Option, Some, None, refl, sym, ap, subst, ◌∙◌, arith, append_assoc}
-use Rattle.std.specs.Prelude.{nat_lt, nat_le, is_some, option_map, find}
+use Rattle.std.proofs.Common.{◌≡◌, ℕ, suc, ◌+◌, ◌-◌, ◌^◌, ◌<◌, ◌≤◌, Bool, true, false, cond, not, ◌||◌, ◌&&◌, List, ◌++◌, length, Some, None, refl, sym, ap, subst, ◌∙◌, arith, append_assoc}
+use Rattle.std.specs.Prelude.{nat_lt, nat_le, option_map}
 use Rattle.std.specs.List.{concat}
 use Rattle.std.proofs.lemmas.Bool.{le-leb, le-ltb, lt-ltb}
-use Rattle.std.proofs.lemmas.List.{length-append, length-replicate, take_all}
+use Rattle.std.proofs.lemmas.List.{length-append}
 use Rattle.cil_base.specs.Refusals.{first_of, NoneBroken}
-use Rattle.cil_base.specs.Numbers.{num}
 use Rattle.pe_image.specs.declared.headers.Headers.{Headers}
 use Rattle.pe_image.specs.declared.section.Section.{Section}
-use Rattle.pe_image.specs.declared.cli.CliHeader.{CliHeader}
-use Rattle.pe_image.specs.Headers.{pe_of, headers_of, headers_size, cli_rva}
-use Rattle.pe_image.specs.Sections.{section_at, sections_of, section_of, holds, address_end, raw_end, place_in, part, at_rva}
-use Rattle.pe_image.specs.Cli.{cli_place, cli_at, cli_of, metadata_of}
-use Rattle.pe_image.specs.Rules.{is_misplaced, section_tests, directory_tests, header_tests, cli_tests, cli_tests_at, Broken}
-use Rattle.pe_image.specs.Written.{zeros, two_bytes, four_bytes}
-use Rattle.pe_image.proofs.GrownLaws.{skip, stay}
-use Rattle.pe_image.proofs.SectionLaws.{find_on, find_here, tests_on, floors}
-use Rattle.pe_image.proofs.ImageLaws.{place_is, cli_same, cli_is, metadata_is}
+use Rattle.pe_image.specs.Headers.{headers_of, headers_size, cli_rva}
+use Rattle.pe_image.specs.Sections.{section_at, section_of, holds, address_end, raw_end, offset_in, at_rva}
+use Rattle.pe_image.specs.Cli.{cli_header_offset, cli_at, cli_of}
+use Rattle.pe_image.specs.Rules.{is_misplaced, section_tests, directory_tests, header_tests, cli_tests, Broken}
+use Rattle.cil_base.specs.Bytes.{number_bytes, zeros, part, IsAt}
+use Rattle.cil_base.proofs.PieceLaws.{length_zeros, at_moved, part_at}
+use Rattle.pe_image.proofs.PieceLaws.{part_of}
+use Rattle.pe_image.proofs.SectionLaws.{find_here, tests_on}
+use Rattle.pe_image.proofs.ImageLaws.{offset_is, cli_same, cli_is, metadata_is}
 use Rattle.pe_image.proofs.RuleLaws.{accepted}
-use Rattle.pe_image.proofs.AcceptLaws.{Accepts, none_both, not_true, directory_out, all_out}
-use Rattle.asm_gen.specs.Layout.{code_address, text_size, text_raw, resource_address, relocation_address, resource_at, relocation_at, file_size, headers, cli_header, image_of, image}
+use Rattle.pe_image.proofs.AcceptLaws.{Accepts, directory_out, all_out}
+use Rattle.asm_gen.specs.Layout.{code_address, text_size, text_raw, file_size, headers, cli_header, image}
 use Rattle.asm_gen.specs.Reading.{sample_cli, IsImageOf}
 use Rattle.asm_gen.proofs.SizeLaws.{raw_within, raw_covers}
 use Rattle.asm_gen.proofs.HeaderLaws.{stands, stands_there, Fields, fields, long, text_section, resource_section, relocation_section, text, resource, relocation, CliFields, cli_fields}
@@ -98,10 +97,10 @@ header_rules b a len k =
     }
 
 -- the CLI header stands at the beginning of .text
-cli_there : (b : List ℕ) (len : ℕ) → Known b len → 0x200 ≡ cli_place b stands
+cli_there : (b : List ℕ) (len : ℕ) → Known b len → 0x200 ≡ cli_header_offset b stands
 cli_there b len k =
     let f = k.fields_are in
-    place_is b stands (text_section len) 0x2000 0x200 (sym f.cli)
+    offset_is b stands (text_section len) 0x2000 0x200 (sym f.cli)
     (ap (λ (rva : ℕ). section_of b stands rva 72) f.cli ∙ in_text b len 0x2000 72 k (omega arith) (omega (arith, raw_covers (text_size len))))
     refl
 
@@ -120,30 +119,19 @@ no_rule b a len rva n entry k c low high =
 -- ---- code and metadata
 
 -- the third and the fourth of six lists that are joined
-third : (h c x y z w : List ℕ) (at n : ℕ) → at + n ≤ length x → part (h ++ (c ++ (x ++ (y ++ (z ++ w))))) (length h + length c + at) n ≡ part x at n
-third h c x y z w at n le =
-    skip h (c ++ (x ++ (y ++ (z ++ w)))) (length h + length c + at) n (omega arith)
-    ∙ skip c (x ++ (y ++ (z ++ w))) (length h + length c + at - length h) n (omega arith)
-    ∙ ap (λ (k : ℕ). part (x ++ (y ++ (z ++ w))) k n) here
-    ∙ stay x (y ++ (z ++ w)) at n le
-  where
-    here : length h + length c + at - length h - length c ≡ at
-    here = omega arith
+third : (h c x y z w : List ℕ) → IsAt (h ++ (c ++ (x ++ (y ++ (z ++ w))))) (length h + length c) x
+third h c x y z w = record { before = h ++ c; after = y ++ (z ++ w); offset = length-append h c; split = simp append_assoc }
 
-fourth : (h c x y z w : List ℕ) → part (h ++ (c ++ (x ++ (y ++ (z ++ w))))) (length h + length c + length x) (length y) ≡ y
-fourth h c x y z w =
-    skip h (c ++ (x ++ (y ++ (z ++ w)))) (length h + length c + length x) (length y) (omega arith)
-    ∙ skip c (x ++ (y ++ (z ++ w))) (length h + length c + length x - length h) (length y) (omega arith)
-    ∙ skip x (y ++ (z ++ w)) (length h + length c + length x - length h - length c) (length y) (omega arith)
-    ∙ ap (λ (k : ℕ). part (y ++ (z ++ w)) k (length y)) here
-    ∙ stay y (z ++ w) 0 (length y) (omega arith)
-    ∙ take_all (length y) y (omega arith)
-  where
-    here : length h + length c + length x - length h - length c - length x ≡ 0
-    here = omega arith
+fourth : (h c x y z w : List ℕ) → IsAt (h ++ (c ++ (x ++ (y ++ (z ++ w))))) (length h + (length c + length x)) y
+fourth h c x y z w = record {
+  before = h ++ (c ++ x);
+  after = z ++ w;
+  offset = simp length-append;
+  split = simp append_assoc;
+}
 
 cli_length : (code metadata entry : ℕ) → length (concat (cli_header code metadata entry)) ≡ 72
-unfolding four_bytes two_bytes
+unfolding number_bytes
 cli_length code metadata entry = refl
 
 long_six : (h c x y z w : List ℕ) → length (h ++ (c ++ (x ++ (y ++ (z ++ w))))) ≡ length h + (length c + (length x + (length y + (length z + length w))))
@@ -162,8 +150,8 @@ unfolding joined
 size_of_all code metadata entry len e =
     let l1 = long len entry in
     let l2 = cli_length (length code) (length metadata) entry in
-    let l3 = length-replicate {A = ℕ} (text_raw len - text_size len) 0 in
-    let l4 = length-replicate {A = ℕ} 0x400 0 in
+    let l3 = length_zeros (text_raw len - text_size len) in
+    let l4 = length_zeros 0x400 in
     let covers = raw_covers (text_size len) in
     long_six (headers len entry) (concat (cli_header (length code) (length metadata) entry)) code metadata (zeros (text_raw len - text_size len)) (zeros 0x400) ∙ omega arith
 
@@ -196,8 +184,8 @@ whole code metadata entry len e small fits =
         relocation_is = relocation len entry t small;
       };
       cli = cli_fields len entry (length code) (length metadata) (code ++ (metadata ++ (z ++ w))) (omega arith) (omega arith) fits;
-      code_there = λ at n le. ap (λ (k : ℕ). part (h ++ t) k n) (omega arith) ∙ third h c code metadata z w at n le;
-      metadata_there = ap (λ (k : ℕ). part (h ++ t) k (length metadata)) (omega arith) ∙ fourth h c code metadata z w;
+      code_there = λ at n le. part_of (h ++ t) code 0x248 at n (at_moved (h ++ t) code (length h + length c) 0x248 (third h c code metadata z w) (omega arith)) le;
+      metadata_there = part_at (h ++ t) metadata (0x248 + length code) (length metadata) (at_moved (h ++ t) metadata (length h + (length c + length code)) (0x248 + length code) (fourth h c code metadata z w) (omega arith)) refl;
     }
 
 reads_back : (code metadata : List ℕ) (entry len : ℕ) (b : List ℕ) → len ≡ length code + length metadata → Whole code metadata entry len b → IsImageOf code metadata entry b
@@ -218,10 +206,10 @@ reads_back code metadata entry len b e w =
     same : CliFields b (code_address + length code) (length metadata) entry → sample_cli (length code) (length metadata) entry ≡ cli_at b 0x2000 0x200
     same c = simp (c.metadata_rva, c.metadata_len, c.flags, c.entry_is)
 
-    found : (rva at n : ℕ) → Known b len → section_of b stands rva n ≡ Some (text_section len) → place_in (text_section len) rva ≡ at → at_rva b rva n ≡ Some (part b at n)
+    found : (rva at n : ℕ) → Known b len → section_of b stands rva n ≡ Some (text_section len) → offset_in (text_section len) rva ≡ at → at_rva b rva n ≡ Some (part b at n)
     found rva at n k f p =
-        ap (λ (h : Headers). option_map (λ s. part b (place_in s rva) n) (section_of b h rva n)) k.stands_at
-        ∙ ap (option_map (λ s. part b (place_in s rva) n)) f
+        ap (λ (h : Headers). option_map (λ s. part b (offset_in s rva) n) (section_of b h rva n)) k.stands_at
+        ∙ ap (option_map (λ s. part b (offset_in s rva) n)) f
         ∙ ap (λ (i : ℕ). Some (part b i n)) p
 
 pub is_image : (code metadata : List ℕ) (entry : ℕ) → file_size (length code + length metadata) ≤ 2 ^ 27 → entry < 2 ^ 32 → IsImageOf code metadata entry (image code metadata entry)

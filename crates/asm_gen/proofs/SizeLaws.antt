@@ -1,7 +1,6 @@
 -- How the sizes of an image's parts are to each other.
-use Rattle.std.proofs.Common.{◌≡◌, ℕ, ◌+◌, ◌-◌, ◌*◌, ◌^◌, ◌<◌, ◌≤◌, List, ◌++◌, length, refl, sym, ap, ◌∙◌, arith}
+use Rattle.std.proofs.Common.{ℕ, ◌≤◌, arith}
 use Rattle.std.specs.Int.{next_multiple_of}
-use Rattle.asm_gen.specs.Layout.{text_size, text_raw, resource_address, relocation_address, resource_at, relocation_at, file_size}
 
 -- raw bytes are no longer than what they take in memory
 pub raw_within : (n : ℕ) → next_multiple_of n 0x200 ≤ next_multiple_of n 0x2000

@@ -1,10 +1,9 @@
 -- The bytes of an image with the sections .text, .rsrc and .reloc (ECMA-335, II.25). PE32, no directory but the CLI header's.
-use Rattle.std.specs.Prelude.{◌≡◌, ℕ, ◌+◌, ◌-◌, ◌^◌, ◌<◌, Bool, ◌==◌, if◌then◌else◌, List, [], ◌∷◌, ◌++◌, length, codes}
+use Rattle.std.specs.Prelude.{ℕ, ◌+◌, ◌-◌, ◌==◌, if◌then◌else◌, List, [], ◌∷◌, ◌++◌, length, codes}
 use Rattle.std.specs.List.{concat}
 use Rattle.std.specs.Int.{next_multiple_of}
-use Rattle.cil_base.specs.declared.refusal.Refusal.{Refusal}
 use Rattle.asm_gen.specs.declared.image.Sizes.{Sizes}
-use Rattle.pe_image.specs.Written.{zeros, two_bytes, four_bytes}
+use Rattle.cil_base.specs.Bytes.{number_bytes, zeros}
 
 -- ---- where the parts stand; the sections are code and metadata of so many bytes, and twice 0x200 zeros
 
@@ -43,7 +42,7 @@ sizes_of len = record { len = len; text_size = text_size len; text_raw = text_ra
 
 -- II.25.2.1
 abbrev pub dos_header : List (List ℕ)
-dos_header = codes "MZ" ∷ zeros 58 ∷ four_bytes 0x80 ∷ zeros 64 ∷ []
+dos_header = codes "MZ" ∷ zeros 58 ∷ number_bytes 4 0x80 ∷ zeros 64 ∷ []
 
 -- a program where there is an entry point, and else a library
 abbrev pub characteristics : ℕ → ℕ
@@ -52,27 +51,27 @@ characteristics entry = if entry == 0 then 0x2102 else 0x102
 -- II.25.2.2: for an I386 machine, three sections
 abbrev pub coff_header : ℕ → List (List ℕ)
 coff_header entry =
-    four_bytes 0x4550 ∷ two_bytes 0x14C ∷ two_bytes 3 ∷ zeros 12 ∷ two_bytes 0xE0 ∷ two_bytes (characteristics entry) ∷ []
+    number_bytes 4 0x4550 ∷ number_bytes 2 0x14C ∷ number_bytes 2 3 ∷ zeros 12 ∷ number_bytes 2 0xE0 ∷ number_bytes 2 (characteristics entry) ∷ []
 
 -- II.25.2.3.1: sizes of code and data, no native entry point, and where code and data begin
 abbrev pub standard_fields : ℕ → List (List ℕ)
 standard_fields len =
-    two_bytes 0x10B ∷ two_bytes 8 ∷ four_bytes (text_raw len) ∷ four_bytes 0x400 ∷ zeros 8 ∷ four_bytes 0x2000 ∷ four_bytes (resource_address len) ∷ []
+    number_bytes 2 0x10B ∷ number_bytes 2 8 ∷ number_bytes 4 (text_raw len) ∷ number_bytes 4 0x400 ∷ zeros 8 ∷ number_bytes 4 0x2000 ∷ number_bytes 4 (resource_address len) ∷ []
 
 -- II.25.2.3.2: the image base, alignments, versions 4.0, sizes
 abbrev pub image_fields : ℕ → List (List ℕ)
 image_fields len =
-    four_bytes 0x400000 ∷ four_bytes 0x2000 ∷ four_bytes 0x200 ∷ four_bytes 4 ∷ four_bytes 0 ∷ four_bytes 4 ∷ zeros 4 ∷ four_bytes (image_size len) ∷ four_bytes 0x200 ∷ zeros 4 ∷ []
+    number_bytes 4 0x400000 ∷ number_bytes 4 0x2000 ∷ number_bytes 4 0x200 ∷ number_bytes 4 4 ∷ number_bytes 4 0 ∷ number_bytes 4 4 ∷ zeros 4 ∷ number_bytes 4 (image_size len) ∷ number_bytes 4 0x200 ∷ zeros 4 ∷ []
 
 -- a console program; stack and heap; 16 directories, of which the fifteenth is the CLI header's
 abbrev pub directories : List (List ℕ)
 directories =
-    two_bytes 3 ∷ two_bytes 0x8540 ∷ four_bytes 0x100000 ∷ four_bytes 0x1000 ∷ four_bytes 0x100000 ∷ four_bytes 0x1000 ∷ zeros 4 ∷ four_bytes 16 ∷ zeros 112 ∷ four_bytes 0x2000 ∷ four_bytes 72 ∷ zeros 8 ∷ []
+    number_bytes 2 3 ∷ number_bytes 2 0x8540 ∷ number_bytes 4 0x100000 ∷ number_bytes 4 0x1000 ∷ number_bytes 4 0x100000 ∷ number_bytes 4 0x1000 ∷ zeros 4 ∷ number_bytes 4 16 ∷ zeros 112 ∷ number_bytes 4 0x2000 ∷ number_bytes 4 72 ∷ zeros 8 ∷ []
 
 -- II.25.3; a name has 8 bytes
 abbrev pub section_header : List ℕ → ℕ → ℕ → ℕ → ℕ → ℕ → List (List ℕ)
 section_header name size address raw raw_at flags =
-    name ∷ four_bytes size ∷ four_bytes address ∷ four_bytes raw ∷ four_bytes raw_at ∷ zeros 12 ∷ four_bytes flags ∷ []
+    name ∷ number_bytes 4 size ∷ number_bytes 4 address ∷ number_bytes 4 raw ∷ number_bytes 4 raw_at ∷ zeros 12 ∷ number_bytes 4 flags ∷ []
 
 abbrev pub text_header : ℕ → List (List ℕ)
 text_header len = section_header (codes ".text" ++ zeros 3) (text_size len) 0x2000 (text_raw len) 0x200 0x60000020
@@ -96,7 +95,7 @@ headers len entry = concat dos_header ++ concat (coff_header entry) ++ optional_
 -- II.25.3.3: runtime 2.5, the metadata behind the code, IL only
 abbrev pub cli_header : ℕ → ℕ → ℕ → List (List ℕ)
 cli_header code metadata entry =
-    four_bytes 72 ∷ two_bytes 2 ∷ two_bytes 5 ∷ four_bytes (code_address + code) ∷ four_bytes metadata ∷ four_bytes 1 ∷ four_bytes entry ∷ zeros 48 ∷ []
+    number_bytes 4 72 ∷ number_bytes 2 2 ∷ number_bytes 2 5 ∷ number_bytes 4 (code_address + code) ∷ number_bytes 4 metadata ∷ number_bytes 4 1 ∷ number_bytes 4 entry ∷ zeros 48 ∷ []
 
 -- ---- the image
 

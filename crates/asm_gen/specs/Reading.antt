@@ -4,7 +4,8 @@ use Rattle.cil_base.specs.Refusals.{NoneBroken}
 use Rattle.pe_image.specs.declared.cli.CliHeader.{CliHeader}
 use Rattle.pe_image.specs.Rules.{Broken}
 use Rattle.pe_image.specs.Cli.{cli_of, metadata_of}
-use Rattle.pe_image.specs.Sections.{part, at_rva}
+use Rattle.cil_base.specs.Bytes.{part}
+use Rattle.pe_image.specs.Sections.{at_rva}
 use Rattle.asm_gen.specs.Layout.{code_address}
 
 -- the CLI header over so much code and metadata: IL only, with a token of the entry point

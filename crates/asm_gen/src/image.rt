@@ -1,22 +1,18 @@
 // The bytes of an image.
 ghost use Rattle.std.specs.Prelude.{◌≡◌, ◌+◌, ◌-◌, ◌≤◌, ◌<◌, ◌^◌, ◌++◌, length, OnOk, IfOk, MatchOption};
 ghost use Rattle.std.specs.List.{concat};
-ghost use Rattle.cil_base.specs.Refusals.{OnRefused};
-ghost use Rattle.pe_image.specs.Growth.{too_long};
+ghost use Rattle.cil_base.specs.Refusals.{OnRefused, OnMemory};
+ghost use Rattle.pe_image.specs.SectionGrowth.{too_long};
 ghost use Rattle.asm_gen.specs.Layout.{sizes_of, text_size, text_raw, resource_address, relocation_address, image_size, resource_at, relocation_at, file_size, dos_header, coff_header, characteristics, standard_fields, image_fields, directories, section_header, text_header, resource_header, relocation_header, optional_header, section_table, headers, cli_header, image};
-ghost use Rattle.pe_image.specs.Written.{zeros, two_bytes, four_bytes};
 ghost use Rattle.asm_gen.specs.Reading.{IsImageOf};
 
-use crate::numbers::{four_bytes, push_all, push_zeros, two_bytes};
-use cil_base::{Bytes, Fault, Refusal, Rule};
+use cil_base::limits::IMAGE_LIMIT;
+use cil_base::{Bytes, Fault, Refusal, Rule, push_all, push_zeros, u16_bytes, u32_bytes};
 use sqlite_items::Items;
 use std::alloc::{AllocError, Global};
 
 /// The RVA of the first code, behind the CLI header.
 pub const CODE_ADDRESS: u32 = 0x2048;
-
-/// The most bytes of an image.
-pub const SIZE_LIMIT: u32 = 1 << 27;
 
 /// The sizes of an image whose code and metadata have so many bytes together.
 #[derive(Clone, Copy)]
@@ -32,15 +28,15 @@ impl Sizes {
 
     /// None where the image would have over 128 MiB.
     fn of(code: usize, metadata: usize) -> Option<Sizes>
-        ensures { MatchOption result (2 ^ 27 < file_size (code + metadata)) (λ s. (s ≡ sizes_of (code + metadata)) × (file_size (code + metadata) ≤ 2 ^ 27)) }
+        ensures { MatchOption result (IMAGE_LIMIT < file_size (code + metadata)) (λ s. (s ≡ sizes_of (code + metadata)) × (file_size (code + metadata) ≤ IMAGE_LIMIT)) }
     {
-        if code > SIZE_LIMIT as usize || metadata > SIZE_LIMIT as usize {
+        if code > IMAGE_LIMIT as usize || metadata > IMAGE_LIMIT as usize {
             return None;
         }
         let len = (code + metadata) as u32;
         let text_size = 72 + len;
         let text_raw = text_size.next_multiple_of(0x200);
-        if text_raw + 0x600 > SIZE_LIMIT {
+        if text_raw + 0x600 > IMAGE_LIMIT {
             return None;
         }
         Some(Sizes {
@@ -49,18 +45,6 @@ impl Sizes {
             text_raw,
             resource_address: 0x2000 + text_size.next_multiple_of(0x2000),
         })
-    }
-}
-
-pub fn too_long() -> Refusal
-    ensures { result ≡ too_long }
-{
-    Refusal {
-        rule: Rule::L6,
-        assembly: 0,
-        table: 0,
-        row: 0,
-        at: SIZE_LIMIT + 1,
     }
 }
 
@@ -73,7 +57,7 @@ fn push_dos_header(out: &mut Vec<u8>) -> Result<(), AllocError>
     let pieces = [
         &signature[..],
         &ZEROS[..58],
-        &four_bytes(0x80)[..],
+        &u32_bytes(0x80)[..],
         &ZEROS[..64],
     ];
     push_all(out, &pieces)
@@ -90,48 +74,48 @@ fn push_coff_header(out: &mut Vec<u8>, entry: u32) -> Result<(), AllocError>
     ensures { OnOk result (out.new.items ≡ out.old.items ++ concat (coff_header entry)) }
 {
     let pieces = [
-        &four_bytes(0x4550)[..],
-        &two_bytes(0x14C)[..],
-        &two_bytes(3)[..],
+        &u32_bytes(0x4550)[..],
+        &u16_bytes(0x14C)[..],
+        &u16_bytes(3)[..],
         &ZEROS[..12],
-        &two_bytes(0xE0)[..],
-        &two_bytes(characteristics(entry))[..],
+        &u16_bytes(0xE0)[..],
+        &u16_bytes(characteristics(entry))[..],
     ];
     push_all(out, &pieces)
 }
 
 fn push_standard_fields(out: &mut Vec<u8>, sizes: &Sizes) -> Result<(), AllocError>
     requires sized { sizes.now ≡ sizes_of sizes.now.len }
-    requires short { file_size sizes.now.len ≤ 2 ^ 27 }
+    requires short { file_size sizes.now.len ≤ IMAGE_LIMIT }
     ensures { OnOk result (out.new.items ≡ out.old.items ++ concat (standard_fields sizes.now.len)) }
 {
     let pieces = [
-        &two_bytes(0x10B)[..],
-        &two_bytes(8)[..],
-        &four_bytes(sizes.text_raw)[..],
-        &four_bytes(0x400)[..],
+        &u16_bytes(0x10B)[..],
+        &u16_bytes(8)[..],
+        &u32_bytes(sizes.text_raw)[..],
+        &u32_bytes(0x400)[..],
         &ZEROS[..8],
-        &four_bytes(0x2000)[..],
-        &four_bytes(sizes.resource_address)[..],
+        &u32_bytes(0x2000)[..],
+        &u32_bytes(sizes.resource_address)[..],
     ];
     push_all(out, &pieces)
 }
 
 fn push_image_fields(out: &mut Vec<u8>, sizes: &Sizes) -> Result<(), AllocError>
     requires sized { sizes.now ≡ sizes_of sizes.now.len }
-    requires short { file_size sizes.now.len ≤ 2 ^ 27 }
+    requires short { file_size sizes.now.len ≤ IMAGE_LIMIT }
     ensures { OnOk result (out.new.items ≡ out.old.items ++ concat (image_fields sizes.now.len)) }
 {
     let pieces = [
-        &four_bytes(0x40_0000)[..],
-        &four_bytes(0x2000)[..],
-        &four_bytes(0x200)[..],
-        &four_bytes(4)[..],
-        &four_bytes(0)[..],
-        &four_bytes(4)[..],
+        &u32_bytes(0x40_0000)[..],
+        &u32_bytes(0x2000)[..],
+        &u32_bytes(0x200)[..],
+        &u32_bytes(4)[..],
+        &u32_bytes(0)[..],
+        &u32_bytes(4)[..],
         &ZEROS[..4],
-        &four_bytes(sizes.resource_address + 0x4000)[..],
-        &four_bytes(0x200)[..],
+        &u32_bytes(sizes.resource_address + 0x4000)[..],
+        &u32_bytes(0x200)[..],
         &ZEROS[..4],
     ];
     push_all(out, &pieces)
@@ -141,17 +125,17 @@ fn push_directories(out: &mut Vec<u8>) -> Result<(), AllocError>
     ensures { OnOk result (out.new.items ≡ out.old.items ++ concat directories) }
 {
     let pieces = [
-        &two_bytes(3)[..],
-        &two_bytes(0x8540)[..],
-        &four_bytes(0x10_0000)[..],
-        &four_bytes(0x1000)[..],
-        &four_bytes(0x10_0000)[..],
-        &four_bytes(0x1000)[..],
+        &u16_bytes(3)[..],
+        &u16_bytes(0x8540)[..],
+        &u32_bytes(0x10_0000)[..],
+        &u32_bytes(0x1000)[..],
+        &u32_bytes(0x10_0000)[..],
+        &u32_bytes(0x1000)[..],
         &ZEROS[..4],
-        &four_bytes(16)[..],
+        &u32_bytes(16)[..],
         &ZEROS[..112],
-        &four_bytes(0x2000)[..],
-        &four_bytes(72)[..],
+        &u32_bytes(0x2000)[..],
+        &u32_bytes(72)[..],
         &ZEROS[..8],
     ];
     push_all(out, &pieces)
@@ -173,19 +157,19 @@ fn push_section(out: &mut Vec<u8>, s: &Section) -> Result<(), AllocError>
 {
     let pieces = [
         &s.name[..],
-        &four_bytes(s.size)[..],
-        &four_bytes(s.address)[..],
-        &four_bytes(s.raw)[..],
-        &four_bytes(s.raw_at)[..],
+        &u32_bytes(s.size)[..],
+        &u32_bytes(s.address)[..],
+        &u32_bytes(s.raw)[..],
+        &u32_bytes(s.raw_at)[..],
         &ZEROS[..12],
-        &four_bytes(s.flags)[..],
+        &u32_bytes(s.flags)[..],
     ];
     push_all(out, &pieces)
 }
 
 fn push_text_header(out: &mut Vec<u8>, sizes: &Sizes) -> Result<(), AllocError>
     requires sized { sizes.now ≡ sizes_of sizes.now.len }
-    requires short { file_size sizes.now.len ≤ 2 ^ 27 }
+    requires short { file_size sizes.now.len ≤ IMAGE_LIMIT }
     ensures { OnOk result (out.new.items ≡ out.old.items ++ concat (text_header sizes.now.len)) }
 {
     let text = Section {
@@ -201,7 +185,7 @@ fn push_text_header(out: &mut Vec<u8>, sizes: &Sizes) -> Result<(), AllocError>
 
 fn push_resource_header(out: &mut Vec<u8>, sizes: &Sizes) -> Result<(), AllocError>
     requires sized { sizes.now ≡ sizes_of sizes.now.len }
-    requires short { file_size sizes.now.len ≤ 2 ^ 27 }
+    requires short { file_size sizes.now.len ≤ IMAGE_LIMIT }
     ensures { OnOk result (out.new.items ≡ out.old.items ++ concat (resource_header sizes.now.len)) }
 {
     let resources = Section {
@@ -217,7 +201,7 @@ fn push_resource_header(out: &mut Vec<u8>, sizes: &Sizes) -> Result<(), AllocErr
 
 fn push_relocation_header(out: &mut Vec<u8>, sizes: &Sizes) -> Result<(), AllocError>
     requires sized { sizes.now ≡ sizes_of sizes.now.len }
-    requires short { file_size sizes.now.len ≤ 2 ^ 27 }
+    requires short { file_size sizes.now.len ≤ IMAGE_LIMIT }
     ensures { OnOk result (out.new.items ≡ out.old.items ++ concat (relocation_header sizes.now.len)) }
 {
     let relocations = Section {
@@ -234,7 +218,7 @@ fn push_relocation_header(out: &mut Vec<u8>, sizes: &Sizes) -> Result<(), AllocE
 #[tactic(auto, unfolding(crate::specs::Layout::optional_header))]
 fn push_optional_header(out: &mut Vec<u8>, sizes: &Sizes) -> Result<(), AllocError>
     requires sized { sizes.now ≡ sizes_of sizes.now.len }
-    requires short { file_size sizes.now.len ≤ 2 ^ 27 }
+    requires short { file_size sizes.now.len ≤ IMAGE_LIMIT }
     ensures { OnOk result (out.new.items ≡ out.old.items ++ optional_header sizes.now.len) }
 {
     push_standard_fields(out, sizes)?;
@@ -245,7 +229,7 @@ fn push_optional_header(out: &mut Vec<u8>, sizes: &Sizes) -> Result<(), AllocErr
 #[tactic(auto, unfolding(crate::specs::Layout::section_table))]
 fn push_section_table(out: &mut Vec<u8>, sizes: &Sizes) -> Result<(), AllocError>
     requires sized { sizes.now ≡ sizes_of sizes.now.len }
-    requires short { file_size sizes.now.len ≤ 2 ^ 27 }
+    requires short { file_size sizes.now.len ≤ IMAGE_LIMIT }
     ensures { OnOk result (out.new.items ≡ out.old.items ++ section_table sizes.now.len) }
 {
     push_text_header(out, sizes)?;
@@ -256,7 +240,7 @@ fn push_section_table(out: &mut Vec<u8>, sizes: &Sizes) -> Result<(), AllocError
 #[tactic(auto, unfolding(crate::specs::Layout::headers))]
 fn push_headers(out: &mut Vec<u8>, sizes: &Sizes, entry: u32) -> Result<(), AllocError>
     requires sized { sizes.now ≡ sizes_of sizes.now.len }
-    requires short { file_size sizes.now.len ≤ 2 ^ 27 }
+    requires short { file_size sizes.now.len ≤ IMAGE_LIMIT }
     ensures { OnOk result (out.new.items ≡ out.old.items ++ headers sizes.now.len entry) }
 {
     push_dos_header(out)?;
@@ -276,13 +260,13 @@ fn push_cli_header(
     ensures { OnOk result (out.new.items ≡ out.old.items ++ concat (cli_header code metadata entry)) }
 {
     let pieces = [
-        &four_bytes(72)[..],
-        &two_bytes(2)[..],
-        &two_bytes(5)[..],
-        &four_bytes(CODE_ADDRESS + code)[..],
-        &four_bytes(metadata)[..],
-        &four_bytes(1)[..],
-        &four_bytes(entry)[..],
+        &u32_bytes(72)[..],
+        &u16_bytes(2)[..],
+        &u16_bytes(5)[..],
+        &u32_bytes(CODE_ADDRESS + code)[..],
+        &u32_bytes(metadata)[..],
+        &u32_bytes(1)[..],
+        &u32_bytes(entry)[..],
         &ZEROS[..48],
     ];
     push_all(out, &pieces)
@@ -291,11 +275,13 @@ fn push_cli_header(
 #[tactic(auto, unfolding(crate::specs::Layout::image))]
 fn image_bytes(alloc: Global, code: &[u8], metadata: &[u8], entry: u32) -> Result<Bytes, Fault>
     ensures ok { IfOk result (λ b. b ≡ image code.now metadata.now entry) }
-    ensures short { OnOk result (file_size (length code.now + length metadata.now) ≤ 2 ^ 27) }
-    ensures refused { OnRefused result (λ r. (r ≡ too_long) × (2 ^ 27 < file_size (length code.now + length metadata.now))) }
+    ensures short { OnOk result (file_size (length code.now + length metadata.now) ≤ IMAGE_LIMIT) }
+    ensures refused { OnRefused result (λ r. (r ≡ too_long) × (IMAGE_LIMIT < file_size (length code.now + length metadata.now))) }
+    // L6 is tested before memory is taken.
+    ensures memory { OnMemory result (file_size (length code.now + length metadata.now) ≤ IMAGE_LIMIT) }
 {
     let sizes = match Sizes::of(code.len(), metadata.len()) {
-        None => return Err(Fault::Refused(too_long())),
+        None => return Err(Fault::Refused(Refusal::limit(Rule::L6, IMAGE_LIMIT))),
         Some(sizes) => sizes,
     };
     let mut out = Vec::new(alloc);
@@ -312,8 +298,10 @@ fn image_bytes(alloc: Global, code: &[u8], metadata: &[u8], entry: u32) -> Resul
 /// over 128 MiB.
 pub fn image(alloc: Global, code: &[u8], metadata: &[u8], entry: u32) -> Result<Bytes, Fault>
     ensures reads { IfOk result (IsImageOf code.now metadata.now entry) }
-    ensures short { OnOk result (file_size (length code.now + length metadata.now) ≤ 2 ^ 27) }
-    ensures refused { OnRefused result (λ r. (r ≡ too_long) × (2 ^ 27 < file_size (length code.now + length metadata.now))) }
+    ensures short { OnOk result (file_size (length code.now + length metadata.now) ≤ IMAGE_LIMIT) }
+    ensures refused { OnRefused result (λ r. (r ≡ too_long) × (IMAGE_LIMIT < file_size (length code.now + length metadata.now))) }
+    // L6 is tested before memory is taken.
+    ensures memory { OnMemory result (file_size (length code.now + length metadata.now) ≤ IMAGE_LIMIT) }
 {
     image_bytes(alloc, code, metadata, entry)
 }

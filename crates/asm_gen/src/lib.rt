@@ -4,9 +4,5 @@
 mod blank;
 mod builder;
 mod image;
-mod numbers;
 
 pub use builder::Builder;
-
-#[cfg(test)]
-mod tests;

@@ -10,6 +10,7 @@ use Rattle.pe_image.specs.declared.section.Section.{Section}
 use Rattle.pe_image.specs.Headers.{pe_of, headers_at, headers_of, section_alignment, file_alignment, headers_size, cli_rva, table_end}
 use Rattle.pe_image.specs.Sections.{section_of}
 use Rattle.pe_image.specs.Rules.{test, field, cut, cuts, section_tests, size_fields, directory_fields, is_whole, has_no_cli, directory_tests, is_file_alignment, optional_tests, is_magic, is_short, coff_tests, has_pe, pe_tests, has_mz, header_tests}
+use Rattle.cil_base.proofs.Small.{not_false}
 use Rattle.pe_image.proofs.SectionLaws.{none_of}
 
 -- ---- lists of tests
@@ -23,12 +24,9 @@ take_it p xs ys e h = rw e h
 pub none_both : (t : Test) (ts : List Test) → t.fails ≡ false → first_of ts ≡ None → first_of (t ∷ ts) ≡ None
 none_both t ts e h = rw e h
 
-pub not_false : (p : Bool) → not p ≡ false → p ≡ true
-not_false true e = refl
-not_false false e = absurd cc
-
-pub not_true : (p : Bool) → p ≡ true → not p ≡ false
-not_true p e = ap not e
+-- a test that isn't negated holds
+pub not_denied : (p : Bool) → p ≡ true → not p ≡ false
+not_denied p e = ap not e
 
 both : (p q : Bool) → p ≡ true → q ≡ false → (p && not q) ≡ true
 both p q e f = rw (e, f) refl
@@ -128,7 +126,7 @@ optional_out b a h le x rest =
     let t1 = test P3 a (h.pe + 56) (nat_lt (section_alignment b h) (file_alignment b h)) in
     let t2 = test P3 a (h.pe + 60) (not (is_file_alignment (file_alignment b h))) in
     take_it (leb (h.pe + 64) (length b)) (t1 ∷ t2 ∷ directory_tests b a h) (cuts b a h.pe (field 56 4 ∷ field 60 4 ∷ [])) (le-leb (h.pe + 64) (length b) le)
-    (none_both t1 (t2 ∷ directory_tests b a h) x.order (none_both t2 (directory_tests b a h) (not_true (is_file_alignment (file_alignment b h)) x.file) rest))
+    (none_both t1 (t2 ∷ directory_tests b a h) x.order (none_both t2 (directory_tests b a h) (not_denied (is_file_alignment (file_alignment b h)) x.file) rest))
 
 coff_out : (b : List ℕ) (a : ℕ) → pe_of b + 64 ≤ length b → Accepts b (headers_of b) → first_of (directory_tests b a (headers_of b)) ≡ None → first_of (coff_tests b a (pe_of b)) ≡ None
 coff_out b a le x rest =
@@ -138,7 +136,7 @@ coff_out b a le x rest =
     let deep = cond (is_magic magic && not short) (optional_tests b a (headers_at b pe)) [] in
     take_it (leb (pe + 26) (length b)) (test P2 a (pe + 20) short ∷ test P2 a (pe + 24) (not (is_magic magic)) ∷ deep) (cuts b a pe (field 6 2 ∷ field 20 2 ∷ field 24 2 ∷ [])) (le-leb (pe + 26) (length b) (omega arith))
     (none_both (test P2 a (pe + 20) short) (test P2 a (pe + 24) (not (is_magic magic)) ∷ deep) x.long
-    (none_both (test P2 a (pe + 24) (not (is_magic magic))) deep (not_true (is_magic magic) x.magic)
+    (none_both (test P2 a (pe + 24) (not (is_magic magic))) deep (not_denied (is_magic magic) x.magic)
     (take_it (is_magic magic && not short) (optional_tests b a (headers_at b pe)) [] (both (is_magic magic) short x.magic x.long) (optional_out b a (headers_of b) le x rest))))
 
 pub all_out : (b : List ℕ) (a : ℕ) → pe_of b + 64 ≤ length b → Accepts b (headers_of b) → first_of (directory_tests b a (headers_of b)) ≡ None → first_of (header_tests b a) ≡ None
@@ -146,9 +144,9 @@ all_out b a le x rest =
     let pe = pe_of b in
     let low : 64 ≤ pe = x.low in
     let deep = cond (nat_le 64 pe) (pe_tests b a pe) [] in
-    none_both (test P1 a 0 (not (has_mz b))) (cond (leb 64 (length b)) (test P1 a 60 (nat_lt pe 64) ∷ deep) (cut b a 60 4 ∷ [])) (not_true (has_mz b) x.mz)
+    none_both (test P1 a 0 (not (has_mz b))) (cond (leb 64 (length b)) (test P1 a 60 (nat_lt pe 64) ∷ deep) (cut b a 60 4 ∷ [])) (not_denied (has_mz b) x.mz)
     (take_it (leb 64 (length b)) (test P1 a 60 (nat_lt pe 64) ∷ deep) (cut b a 60 4 ∷ []) (le-leb 64 (length b) (omega arith))
     (none_both (test P1 a 60 (nat_lt pe 64)) deep (le-ltb pe 64 low)
     (take_it (nat_le 64 pe) (pe_tests b a pe) [] (le-leb 64 pe low)
-    (none_both (test P1 a pe (not (has_pe b pe))) (cond (has_pe b pe) (coff_tests b a pe) []) (not_true (has_pe b pe) x.signature)
+    (none_both (test P1 a pe (not (has_pe b pe))) (cond (has_pe b pe) (coff_tests b a pe) []) (not_denied (has_pe b pe) x.signature)
     (take_it (has_pe b pe) (coff_tests b a pe) [] x.signature (coff_out b a le x rest))))))

@@ -9,7 +9,7 @@ use Rattle.std.specs.Prelude.{Result, Ok, Err}
 use Rattle.cil_base.specs.declared.refusal.Refusal.{Refusal}
 use Rattle.pe_image.specs.declared.headers.Headers.{Headers}
 use Rattle.pe_image.specs.Headers.{headers_of, section_alignment}
-use Rattle.pe_image.specs.Growth.{addresses_end, first_address, grown_headers, new_address, no_room, room_in, room_of}
+use Rattle.pe_image.specs.SectionGrowth.{addresses_end, first_address, grown_headers, new_address, no_room, room_in, room_of}
 
 max_turn : (a b c : ℕ) → max a (max b c) ≡ max (max b a) c
 max_turn a b c = omega arith

@@ -10,7 +10,7 @@ use Rattle.pe_image.specs.declared.headers.Headers.{Headers}
 use Rattle.pe_image.specs.Headers.{pe_of, is_plus, headers_at, headers_of, headers_size}
 use Rattle.pe_image.specs.Sections.{section_at, address_end, raw_end}
 use Rattle.pe_image.specs.Rules.{cuts, section_fields, section_tests, directory_tests, optional_tests, coff_tests, header_tests, cli_tests, has_pe, is_magic, is_short, Broken}
-use Rattle.pe_image.specs.Cli.{cli_place}
+use Rattle.pe_image.specs.Cli.{cli_header_offset}
 
 abbrev place_key : ℕ → ℕ → ℕ → List ℕ
 place_key a at rule = a ∷ 0 ∷ 0 ∷ at ∷ rule ∷ []
@@ -138,7 +138,7 @@ header_first bytes a short = first_is_first [] (header_tests bytes a) (headers_r
 
 cli_first : (bytes : List ℕ) (a : ℕ) (h : Headers) → MatchOption (first_of (cli_tests bytes a h)) (NoneBroken (Fails (cli_tests bytes a h))) (First (Fails (cli_tests bytes a h)))
 cli_first bytes a h =
-    let cli = cli_place bytes h in
+    let cli = cli_header_offset bytes h in
     first_is_first [] (cli_tests bytes a h) (refl, (step a (cli + 16) (cli + 8) 3 3 (omega arith) (λ e. omega arith), tt))
 
 -- ---- what read answers

@@ -4,10 +4,10 @@ use Rattle.std.specs.Prelude.{find, nat_lt}
 use Rattle.std.proofs.lemmas.Bool.{leb-true, leb-false, le-leb, lt-leb, lt-ltb, le-ltb, ltb-true, ltb-false}
 use Rattle.std.proofs.lemmas.Option.{same_Some}
 use Rattle.cil_base.specs.declared.rule.Rule.TheVariants.{P3}
-use Rattle.cil_base.specs.Refusals.{refusal, Test, first_of}
+use Rattle.cil_base.specs.Refusals.{refusal, assembly_place, Test, first_of}
 use Rattle.pe_image.specs.declared.section.Section.{Section}
 use Rattle.pe_image.specs.declared.headers.Headers.{Headers}
-use Rattle.pe_image.specs.Sections.{section_at, sections_at, sections_of, section_of, place_in, address_end, raw_end, holds}
+use Rattle.pe_image.specs.Sections.{section_at, sections_at, sections_of, section_of, offset_in, address_end, raw_end, holds}
 use Rattle.pe_image.specs.declared.fields.Field.{Field}
 use Rattle.pe_image.specs.Rules.{test, field, cut, section_tests, section_fields, cuts, is_misplaced}
 
@@ -24,7 +24,7 @@ find_here p bytes at n m e h = rw (e, h) refl
 pub tests_on : (bytes : List ℕ) (a address_floor raw_floor at next n m : ℕ) → n ≡ suc m → at + 40 ≡ next → at + 40 ≤ length bytes → is_misplaced bytes address_floor raw_floor (section_at bytes at) ≡ false → first_of (section_tests bytes a address_floor raw_floor at n) ≡ first_of (section_tests bytes a (address_end (section_at bytes at)) (cond (nat_lt 0 (section_at bytes at).raw_size) (raw_end (section_at bytes at)) raw_floor) next m)
 tests_on bytes a address_floor raw_floor at next n m e f within h = rw (e, le-leb (at + 40) (length bytes) within, h, f) refl
 
-pub tests_here : (bytes : List ℕ) (a address_floor raw_floor at n m : ℕ) → n ≡ suc m → at + 40 ≤ length bytes → is_misplaced bytes address_floor raw_floor (section_at bytes at) ≡ true → first_of (section_tests bytes a address_floor raw_floor at n) ≡ Some (refusal P3 (record { assembly = a; table = 0; row = 0 }) at)
+pub tests_here : (bytes : List ℕ) (a address_floor raw_floor at n m : ℕ) → n ≡ suc m → at + 40 ≤ length bytes → is_misplaced bytes address_floor raw_floor (section_at bytes at) ≡ true → first_of (section_tests bytes a address_floor raw_floor at n) ≡ Some (refusal P3 (assembly_place a) at)
 tests_here bytes a address_floor raw_floor at n m e within h = rw (e, le-leb (at + 40) (length bytes) within, h) refl
 
 pub tests_cut : (bytes : List ℕ) (a address_floor raw_floor at n m : ℕ) → n ≡ suc m → length bytes < at + 40 → first_of (section_tests bytes a address_floor raw_floor at n) ≡ first_of (cuts bytes a at section_fields)
@@ -146,8 +146,8 @@ find_meets p (x ∷ xs) s e = go (find_meets p xs s) (p x) refl
     go ih true t = let same : x ≡ s = same_Some x s (rw t at e) in rw (← same) t
     go ih false t = ih (rw t at e)
 
-pub place_within : (bytes : List ℕ) (h : Headers) (rva len : ℕ) (s : Section) → section_of bytes h rva len ≡ Some s → raw_end s ≤ length bytes → place_in s rva + len ≤ length bytes
-place_within bytes h rva len s e within =
+pub offset_within : (bytes : List ℕ) (h : Headers) (rva len : ℕ) (s : Section) → section_of bytes h rva len ≡ Some s → raw_end s ≤ length bytes → offset_in s rva + len ≤ length bytes
+offset_within bytes h rva len s e within =
     let both = holds_true rva len s (find_meets (holds rva len) (sections_of bytes h) s e) in
     omega (arith, both.0, both.1)
 
@@ -190,7 +190,7 @@ behind_floor p bytes a f g at (suc n) s e h some =
         let same : section_at bytes at ≡ s = same_Some (section_at bytes at) s (rw t at h) in
         subst (λ (x : Section). g ≤ x.raw_at) same (here (subst (λ (x : Section). 0 < x.raw_size) (sym same) some))
 
-pub cli_behind : (bytes : List ℕ) (a f size rva : ℕ) (h : Headers) (s : Section) → first_of (section_tests bytes a f size h.sections h.count) ≡ None → section_of bytes h rva 72 ≡ Some s → size ≤ place_in s rva
+pub cli_behind : (bytes : List ℕ) (a f size rva : ℕ) (h : Headers) (s : Section) → first_of (section_tests bytes a f size h.sections h.count) ≡ None → section_of bytes h rva 72 ≡ Some s → size ≤ offset_in s rva
 cli_behind bytes a f size rva h s e found =
     let both = holds_true rva 72 s (find_meets (holds rva 72) (sections_of bytes h) s found) in
     let le = behind_floor (holds rva 72) bytes a f size h.sections h.count s e found (omega (arith, both.0, both.1)) in

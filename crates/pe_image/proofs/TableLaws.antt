@@ -6,7 +6,7 @@ use Rattle.std.proofs.lemmas.Option.{same_Some}
 use Rattle.cil_base.specs.Refusals.{first_of}
 use Rattle.pe_image.specs.declared.section.Section.{Section}
 use Rattle.pe_image.specs.Sections.{section_at, sections_at, address_end, raw_end, holds}
-use Rattle.pe_image.specs.Growth.{addresses_end}
+use Rattle.pe_image.specs.SectionGrowth.{addresses_end}
 use Rattle.pe_image.specs.Rules.{section_tests, is_misplaced}
 use Rattle.pe_image.proofs.SectionLaws.{none_after, misplaced_not, floor_not, floors, behind_floor}
 use Rattle.pe_image.proofs.FieldLaws.{IsMoved}
@@ -127,8 +127,8 @@ moved_well b out f g by s t m e longer =
     let size : t.raw_size ≡ s.raw_size = ap (λ (x : Section). x.raw_size) m.rest in
     let low = address_not b f g s e in
     placed_well out f (g + by) t (omega arith)
-    (λ some. (let more : 0 < s.raw_size = omega arith in let p = m.place more in let q = floor_not b f g s e more in omega arith))
-    (λ some. (let more : 0 < s.raw_size = omega arith in let p = m.place more in let q = misplaced_not b f g s e more in omega arith))
+    (λ some. (let more : 0 < s.raw_size = omega arith in let p = m.offset more in let q = floor_not b f g s e more in omega arith))
+    (λ some. (let more : 0 < s.raw_size = omega arith in let p = m.offset more in let q = misplaced_not b f g s e more in omega arith))
 
 -- where the raw bytes so far end then
 floor_grown : (s t : Section) (by g : ℕ) → IsMoved s t by → cond (nat_lt 0 t.raw_size) (raw_end t) (g + by) ≡ cond (nat_lt 0 s.raw_size) (raw_end s) g + by
@@ -139,7 +139,7 @@ floor_grown s t by g m = ap (λ (k : ℕ). cond (nat_lt 0 k) (raw_end t) (g + by
 
     go : (p : Bool) → ltb 0 s.raw_size ≡ p → cond (ltb 0 s.raw_size) (raw_end t) (g + by) ≡ cond (ltb 0 s.raw_size) (raw_end s) g + by
     go true e =
-        let p = m.place (ltb-true 0 s.raw_size e) in
+        let p = m.offset (ltb-true 0 s.raw_size e) in
         let same = size in
         rw e (omega arith)
     go false e = rw e refl

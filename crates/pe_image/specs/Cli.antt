@@ -4,11 +4,11 @@ use Rattle.cil_base.specs.Numbers.{num}
 use Rattle.pe_image.specs.declared.headers.Headers.{Headers}
 use Rattle.pe_image.specs.declared.cli.CliHeader.{CliHeader}
 use Rattle.pe_image.specs.Headers.{headers_of, cli_rva}
-use Rattle.pe_image.specs.Sections.{section_of, place_in, bytes_at}
+use Rattle.pe_image.specs.Sections.{section_of, offset_in, bytes_at}
 
--- where the CLI header stands in the file
-abbrev pub cli_place : List ℕ → Headers → ℕ
-cli_place bytes h = unwrap_or (option_map (λ s. place_in s (cli_rva bytes h)) (section_of bytes h (cli_rva bytes h) 72)) 0
+-- the offset of the CLI header in the file
+abbrev pub cli_header_offset : List ℕ → Headers → ℕ
+cli_header_offset bytes h = unwrap_or (option_map (λ s. offset_in s (cli_rva bytes h)) (section_of bytes h (cli_rva bytes h) 72)) 0
 
 abbrev pub cli_at : List ℕ → ℕ → ℕ → CliHeader
 cli_at bytes rva at = record {
@@ -20,7 +20,7 @@ cli_at bytes rva at = record {
 }
 
 unfoldable pub cli_of : List ℕ → CliHeader
-cli_of bytes = cli_at bytes (cli_rva bytes (headers_of bytes)) (cli_place bytes (headers_of bytes))
+cli_of bytes = cli_at bytes (cli_rva bytes (headers_of bytes)) (cli_header_offset bytes (headers_of bytes))
 
 -- the metadata root and all behind it
 unfoldable pub metadata_of : List ℕ → List ℕ

@@ -1,4 +1,4 @@
--- The headers of an image (ECMA-335, II.25.2). All fields are numbers at places of the file.
+-- The headers of an image (ECMA-335, II.25.2). All fields are numbers at offsets of the file.
 use Rattle.std.specs.Prelude.{ℕ, ◌+◌, ◌*◌, ◌^◌, ◌<◌, ◌≤◌, Bool, ◌==◌, nat_le, List, length, if◌then◌else◌}
 use Rattle.cil_base.specs.Numbers.{num}
 use Rattle.pe_image.specs.declared.headers.Headers.{Headers}

@@ -3,6 +3,6 @@ pub mod Sections
 pub mod Cli
 pub mod Rules
 pub mod Images
-pub mod Growth
+pub mod SectionGrowth
 pub mod Written
 pub mod ReadBack

@@ -3,11 +3,12 @@ use Rattle.std.specs.Prelude.{◌≡◌, ◌⊎◌, ◌<◌, ◌≤◌, ℕ, ◌
 use Rattle.std.specs.Int.{next_multiple_of}
 use Rattle.cil_base.specs.Refusals.{NoneBroken}
 use Rattle.pe_image.specs.Headers.{headers_of, file_alignment}
-use Rattle.pe_image.specs.Sections.{part, at_rva, tail_at}
+use Rattle.cil_base.specs.Bytes.{part, zeros}
+use Rattle.pe_image.specs.Sections.{at_rva, tail_at}
 use Rattle.pe_image.specs.Cli.{cli_of, metadata_of}
 use Rattle.pe_image.specs.Rules.{Broken}
-use Rattle.pe_image.specs.Growth.{new_address, room_of}
-use Rattle.pe_image.specs.Written.{zeros, grown_cli}
+use Rattle.pe_image.specs.SectionGrowth.{new_address, room_of}
+use Rattle.pe_image.specs.Written.{grown_cli}
 
 -- the RVA of the new section
 unfoldable pub new_rva : List ℕ → ℕ

@@ -1,28 +1,28 @@
--- The rules on images (ECMA-335, II.25), each with its place. A field is tested where the fields that lead to it are in order.
+-- The rules on images (ECMA-335, II.25), each with its offset. A field is tested where the fields that lead to it are in order.
 use Rattle.std.specs.Prelude.{◌⊎◌, ℕ, zero, suc, ◌+◌, Bool, not, ◌||◌, ◌&&◌, ◌==◌, nat_lt, nat_le, List, [], ◌∷◌, ◌++◌, map, Option, Some, Result, Ok, Err, is_some, bit_and, if◌then◌else◌}
 use Rattle.std.specs.List.{list_any}
 use Rattle.cil_base.specs.declared.rule.Rule.{Rule}
 use Rattle.cil_base.specs.declared.rule.Rule.TheVariants.{P1, P2, P3, P4, P6}
 use Rattle.cil_base.specs.declared.refusal.Refusal.{Refusal}
-use Rattle.cil_base.specs.Refusals.{refusal, Test, Fails, NoneBroken}
+use Rattle.cil_base.specs.Refusals.{refusal, assembly_place, Test, Fails, NoneBroken}
 use Rattle.cil_base.specs.Numbers.{num, printed_offset}
 use Rattle.pe_image.specs.declared.headers.Headers.{Headers}
 use Rattle.pe_image.specs.declared.fields.Field.{Field}
 use Rattle.pe_image.specs.declared.section.Section.{Section}
 use Rattle.pe_image.specs.Headers.{reaches, pe_of, is_plus, headers_at, headers_of, section_alignment, file_alignment, headers_size, cli_rva, table_end}
 use Rattle.pe_image.specs.Sections.{section_at, address_end, raw_end, section_of}
-use Rattle.pe_image.specs.Cli.{cli_place}
+use Rattle.pe_image.specs.Cli.{cli_header_offset}
 
--- a rule at a place of the file
+-- a rule at an offset of the file
 abbrev pub test : Rule → ℕ → ℕ → Bool → Test
-test rule a at fails = record { refusal = refusal rule (record { assembly = a; table = 0; row = 0 }) at; fails = fails }
+test rule a at fails = record { refusal = refusal rule (assembly_place a) at; fails = fails }
 
 -- ---- P6: fields that pass the end of the file
 
 abbrev pub cut : List ℕ → ℕ → ℕ → ℕ → Test
 cut bytes a at width = test P6 a (printed_offset at) (not (reaches bytes (at + width)))
 
--- fields behind a place
+-- fields behind an offset
 abbrev pub cuts : List ℕ → ℕ → ℕ → List Field → List Test
 cuts bytes a at fields = map (λ f. cut bytes a (at + f.offset) f.width) fields
 
@@ -41,7 +41,7 @@ field offset width = record { offset = offset; width = width }
 abbrev pub section_fields : List Field
 section_fields = field 0 8 ∷ field 8 4 ∷ field 12 4 ∷ field 16 4 ∷ field 20 4 ∷ field 36 4 ∷ []
 
--- so many section headers from a place on, where the RVAs and raw bytes before them end at the floors
+-- so many section headers from an offset on, where the RVAs and raw bytes before them end at the floors
 abbrev pub section_tests : List ℕ → ℕ → ℕ → ℕ → ℕ → ℕ → List Test
 section_tests bytes a address_floor raw_floor at zero = []
 section_tests bytes a address_floor raw_floor at (suc n) =
@@ -116,7 +116,7 @@ pe_tests bytes a pe = test P1 a pe (not (has_pe bytes pe)) ∷ (if has_pe bytes 
 abbrev pub has_mz : List ℕ → Bool
 has_mz bytes = reaches bytes 2 && (num bytes 0 2 == 0x5A4D)
 
--- the headers, in the order of their places
+-- the headers, in the order of their offsets
 abbrev pub header_tests : List ℕ → ℕ → List Test
 header_tests bytes a =
     test P1 a 0 (not (has_mz bytes)) ∷
@@ -137,7 +137,7 @@ cli_tests_at bytes a h cli =
     []
 
 abbrev pub cli_tests : List ℕ → ℕ → Headers → List Test
-cli_tests bytes a h = cli_tests_at bytes a h (cli_place bytes h)
+cli_tests bytes a h = cli_tests_at bytes a h (cli_header_offset bytes h)
 
 -- ---- all of them
 

@@ -1,11 +1,12 @@
 -- The section table (ECMA-335, II.25.3), and the bytes at an RVA.
-use Rattle.std.specs.Prelude.{ℕ, zero, suc, ◌+◌, ◌-◌, Bool, ◌&&◌, nat_le, max, List, [], ◌∷◌, take, drop, find, Option, option_map, unwrap_or}
+use Rattle.std.specs.Prelude.{ℕ, zero, suc, ◌+◌, ◌-◌, Bool, ◌&&◌, nat_le, max, List, [], ◌∷◌, find, Option, option_map, unwrap_or}
 use Rattle.cil_base.specs.Numbers.{num}
+use Rattle.cil_base.specs.Bytes.{part}
 use Rattle.pe_image.specs.declared.headers.Headers.{Headers}
 use Rattle.pe_image.specs.declared.section.Section.{Section}
 use Rattle.pe_image.specs.Headers.{headers_of}
 
--- the section whose header stands at a place
+-- the section whose header stands at an offset
 abbrev pub section_at : List ℕ → ℕ → Section
 section_at bytes at = record {
   virtual_size = num bytes (at + 8) 4;
@@ -37,21 +38,18 @@ holds rva len s = nat_le s.address rva && nat_le (rva + len) (s.address + s.raw_
 abbrev pub section_of : List ℕ → Headers → ℕ → ℕ → Option Section
 section_of bytes h rva len = find (holds rva len) (sections_of bytes h)
 
--- the place in the file of an RVA of the section
-abbrev pub place_in : Section → ℕ → ℕ
-place_in s rva = s.raw_at + (rva - s.address)
-
-abbrev pub part : List ℕ → ℕ → ℕ → List ℕ
-part bytes at len = take len (drop at bytes)
+-- the offset in the file of an RVA of the section
+abbrev pub offset_in : Section → ℕ → ℕ
+offset_in s rva = s.raw_at + (rva - s.address)
 
 -- the bytes at a range of RVAs
 abbrev pub at_rva : List ℕ → ℕ → ℕ → Option (List ℕ)
-at_rva bytes rva len = option_map (λ s. part bytes (place_in s rva) len) (section_of bytes (headers_of bytes) rva len)
+at_rva bytes rva len = option_map (λ s. part bytes (offset_in s rva) len) (section_of bytes (headers_of bytes) rva len)
 
 -- the bytes from an RVA to the end of its section's raw bytes
 abbrev pub tail_at : List ℕ → ℕ → Option (List ℕ)
 tail_at bytes rva =
-    option_map (λ s. part bytes (place_in s rva) (s.address + s.raw_size - rva)) (section_of bytes (headers_of bytes) rva 1)
+    option_map (λ s. part bytes (offset_in s rva) (s.address + s.raw_size - rva)) (section_of bytes (headers_of bytes) rva 1)
 
 -- the bytes at an RVA that is known to be there
 abbrev pub bytes_at : List ℕ → ℕ → ℕ → List ℕ

@@ -12,7 +12,7 @@ use crate::section::{Section, find_section};
 use cil_base::{Refusal, Rule, read_u32_at};
 
 /// The CLI header of an image.
-#[derive(Clone, Copy, Debug, PartialEq, Eq)]
+#[derive(Clone, Copy)]
 pub struct CliHeader {
     /// Where it stands itself.
     pub header_rva: u32,
@@ -35,7 +35,7 @@ impl CliHeader {
     ghost use Rattle.pe_image.specs.Written.{grown_cli};
 
     /// The CLI header with other metadata, and without a strong name.
-    pub fn grown(&self, metadata_rva: u32, metadata_len: u32) -> CliHeader
+    pub fn with_metadata(&self, metadata_rva: u32, metadata_len: u32) -> CliHeader
         ensures { result ≡ grown_cli self.now metadata_rva metadata_len }
     {
         CliHeader {

@@ -1,7 +1,7 @@
 // Header fields that pass the end of the file.
 ghost use Rattle.std.specs.Prelude.{◌≡◌, ◌<◌, ◌^◌, length};
 ghost use Rattle.cil_base.specs.Numbers.{printed_offset};
-ghost use Rattle.cil_base.specs.Refusals.{refusal, first_of};
+ghost use Rattle.cil_base.specs.Refusals.{refusal, assembly_place, first_of};
 ghost use Rattle.pe_image.specs.Rules.{cuts};
 
 use cil_base::{Place, Refusal, Rule};
@@ -13,16 +13,11 @@ pub struct Field {
     pub width: u8,
 }
 
-/// The refusal at a place of the file. One past the last u32 is printed as the last.
+/// The refusal at an offset of the file. One past the last u32 is printed as the last.
 pub fn refusal_at(rule: Rule, assembly: u32, at: usize) -> Refusal
-    ensures { result ≡ refusal rule (record { assembly = assembly; table = 0; row = 0 }) (printed_offset at) }
+    ensures { result ≡ refusal rule (assembly_place assembly) (printed_offset at) }
 {
-    let place = Place {
-        assembly,
-        table: 0,
-        row: 0,
-    };
-    place.refusal(rule, at.min(u32::MAX as usize) as u32)
+    Place::of_assembly(assembly).refusal(rule, at.min(u32::MAX as usize) as u32)
 }
 
 /// The first of the fields behind `at` that passes the end of the file.
@@ -32,9 +27,9 @@ pub fn first_cut(bytes: &[u8], assembly: u32, at: usize, fields: &[Field]) -> Op
 {
     for field in fields {
         let Field { offset, width } = *field;
-        let place = at + usize::from(offset);
-        if place + usize::from(width) > bytes.len() {
-            return Some(refusal_at(Rule::P6, assembly, place));
+        let field_at = at + usize::from(offset);
+        if field_at + usize::from(width) > bytes.len() {
+            return Some(refusal_at(Rule::P6, assembly, field_at));
         }
     }
     None

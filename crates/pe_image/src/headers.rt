@@ -31,11 +31,11 @@ pub struct Headers {
     pub count: usize,
 }
 
-/// The place of the PE signature, where both signatures are there.
-pub fn pe_place(bytes: &[u8], assembly: u32) -> Result<usize, Refusal>
+/// The offset of the PE signature, where both signatures are there.
+pub fn pe_offset(bytes: &[u8], assembly: u32) -> Result<usize, Refusal>
     requires { length bytes.now < 2 ^ 32 }
     ensures tests { first_of (header_tests bytes.now assembly) ≡ goes_on result (first_of (coff_tests bytes.now assembly (pe_of bytes.now))) }
-    ensures place { IfOk result (λ pe. pe ≡ pe_of bytes.now) }
+    ensures offset { IfOk result (λ pe. pe ≡ pe_of bytes.now) }
     ensures within { IfOk result (λ pe. pe + 4 ≤ length bytes.now) }
 {
     if read_u16_at(bytes, 0) != Some(MZ) {
@@ -124,7 +124,7 @@ static DIRECTORY_FIELDS: [Field; 6] = [
 /// Where the parts of the headers stand, by the COFF header behind the signature at `pe`.
 pub fn coff(bytes: &[u8], assembly: u32, pe: usize) -> Result<Headers, Refusal>
     requires short { length bytes.now < 2 ^ 32 }
-    requires place { pe + 4 ≤ length bytes.now }
+    requires offset { pe + 4 ≤ length bytes.now }
     ensures tests { first_of (coff_tests bytes.now assembly pe) ≡ goes_on result (first_of (optional_tests bytes.now assembly (headers_at bytes.now pe))) }
     ensures headers { IfOk result (λ h. h ≡ headers_at bytes.now pe) }
     ensures within { IfOk result (λ h. pe + 26 ≤ length bytes.now) }
@@ -163,7 +163,7 @@ fn is_file_alignment(n: u32) -> bool
 /// Tests the alignments of sections and of their raw bytes.
 pub fn test_alignments(bytes: &[u8], assembly: u32, headers: &Headers) -> Result<(), Refusal>
     requires short { length bytes.now < 2 ^ 32 }
-    requires place { headers.now.pe + 4 ≤ length bytes.now }
+    requires offset { headers.now.pe + 4 ≤ length bytes.now }
     ensures tests { first_of (optional_tests bytes.now assembly headers.now) ≡ goes_on result (first_of (directory_tests bytes.now assembly headers.now)) }
     ensures aligned { OnOk result (Aligned bytes.now headers.now) }
 {
@@ -186,7 +186,7 @@ pub fn test_alignments(bytes: &[u8], assembly: u32, headers: &Headers) -> Result
 /// Gives the section with the CLI header.
 pub fn cli_section(bytes: &[u8], assembly: u32, headers: &Headers) -> Result<Section, Refusal>
     requires short { length bytes.now < 2 ^ 32 }
-    requires place { headers.now.pe + 26 ≤ length bytes.now }
+    requires offset { headers.now.pe + 26 ≤ length bytes.now }
     requires fit { Fit headers.now }
     ensures tests { first_of (directory_tests bytes.now assembly headers.now) ≡ goes_on result None }
     ensures section { IfOk result (λ s. section_of bytes.now headers.now (cli_rva bytes.now headers.now) 72 ≡ Some s) }
@@ -236,7 +236,7 @@ pub fn read_headers(bytes: &[u8], assembly: u32) -> Result<(Headers, Section), R
     ensures section { IfOk result (λ p. section_of bytes.now p.0 (cli_rva bytes.now p.0) 72 ≡ Some p.1) }
     ensures within { IfOk result (λ p. raw_end p.1 ≤ length bytes.now) }
 {
-    let pe = pe_place(bytes, assembly)?;
+    let pe = pe_offset(bytes, assembly)?;
     let headers = coff(bytes, assembly, pe)?;
     test_alignments(bytes, assembly, &headers)?;
     let section = cli_section(bytes, assembly, &headers)?;

@@ -1,11 +1,14 @@
 // An image behind its headers.
 ghost use Rattle.std.specs.Prelude.{◌≡◌, ◌+◌, ◌-◌, ◌<◌, ◌≤◌, ◌^◌, length, option_copied, Some, None, IfOk, OnOk, IfErr, Ok, Err};
-ghost use Rattle.cil_base.specs.Refusals.{First, NoneBroken, OnRefused};
-ghost use Rattle.pe_image.specs.Written.{KeepsBytes, new_place, grown_of};
-ghost use Rattle.pe_image.specs.Sections.{part, at_rva, tail_at};
+ghost use Rattle.std.specs.Result.{IsOk};
+ghost use Rattle.cil_base.specs.Bytes.{part};
+ghost use Rattle.cil_base.specs.declared.limits.TheConstants.{IMAGE_LIMIT};
+ghost use Rattle.cil_base.specs.Refusals.{First, NoneBroken, OnRefused, OnMemory};
+ghost use Rattle.pe_image.specs.Written.{KeepsBytes, new_offset, grown_of};
+ghost use Rattle.pe_image.specs.Sections.{at_rva, tail_at};
 ghost use Rattle.pe_image.specs.Cli.{cli_of, metadata_of};
 ghost use Rattle.pe_image.specs.Rules.{Broken};
-ghost use Rattle.pe_image.specs.Growth.{room_of};
+ghost use Rattle.pe_image.specs.SectionGrowth.{room_of};
 ghost use Rattle.pe_image.specs.ReadBack.{Grows};
 
 use crate::cli::{CliHeader, read_cli};
@@ -13,7 +16,7 @@ use crate::growth::room;
 use crate::headers::{Headers, cli_rva, read_headers};
 use crate::section::find_section;
 use crate::write::write;
-use cil_base::{Bytes, Fault, Refusal};
+use cil_base::{Bytes, Fault, Refusal, part};
 use std::alloc::Global;
 use std::marker::Model;
 
@@ -33,7 +36,7 @@ impl<'a> Model for Image<'a> {
     ghost use Rattle.cil_base.specs.Refusals.{first_of};
     ghost use Rattle.pe_image.specs.Headers.{headers_size};
     ghost use Rattle.pe_image.specs.Images.{File, InOrder};
-    ghost use Rattle.pe_image.specs.Cli.{cli_place, cli_of, metadata_of};
+    ghost use Rattle.pe_image.specs.Cli.{cli_header_offset, cli_of, metadata_of};
     ghost use Rattle.pe_image.specs.Rules.{cli_tests};
 
     ghost Value = { File };
@@ -43,19 +46,11 @@ impl<'a> Model for Image<'a> {
     ghost invariant = { λ i.
         InOrder i.bytes.now i.assembly i.headers
         × (first_of (cli_tests i.bytes.now i.assembly i.headers) ≡ None)
-        × (i.cli_offset ≡ cli_place i.bytes.now i.headers)
+        × (i.cli_offset ≡ cli_header_offset i.bytes.now i.headers)
         × (headers_size i.bytes.now i.headers ≤ i.cli_offset)
         × (i.cli_offset + 72 ≤ length i.bytes.now)
         × (i.cli ≡ cli_of i.bytes.now)
         × (i.metadata.now ≡ metadata_of i.bytes.now) };
-}
-
-/// The bytes from a place on, as many as asked for where the file has them.
-pub fn part(bytes: &[u8], at: usize, len: usize) -> &[u8]
-    ensures { result.now ≡ part bytes.now at len }
-{
-    let rest = &bytes[at.min(bytes.len())..];
-    &rest[..len.min(rest.len())]
 }
 
 impl<'a> Image<'a> {
@@ -69,11 +64,11 @@ impl<'a> Image<'a> {
     {
         let (headers, section) = read_headers(bytes, assembly)?;
         let rva = cli_rva(bytes, &headers);
-        let cli_offset = section.place(rva);
+        let cli_offset = section.offset(rva);
         let (cli, section) = read_cli(bytes, assembly, &headers, rva, cli_offset)?;
         let metadata = part(
             bytes,
-            section.place(cli.metadata_rva),
+            section.offset(cli.metadata_rva),
             cli.metadata_len as usize,
         );
         Ok(Image {
@@ -91,7 +86,7 @@ impl<'a> Image<'a> {
         ensures { option_copied result ≡ at_rva self.now.bytes rva len }
     {
         let section = find_section(self.bytes, &self.headers, rva, len)?;
-        Some(part(self.bytes, section.place(rva), len as usize))
+        Some(part(self.bytes, section.offset(rva), len as usize))
     }
 
     /// The bytes from an RVA to the end of its section's raw bytes, where they hold the RVA.
@@ -99,7 +94,7 @@ impl<'a> Image<'a> {
         ensures { option_copied result ≡ tail_at self.now.bytes rva }
     {
         let section = find_section(self.bytes, &self.headers, rva, 1)?;
-        Some(part(self.bytes, section.place(rva), section.left(rva)))
+        Some(part(self.bytes, section.offset(rva), section.left(rva)))
     }
 
     /// The metadata root and all behind it (ECMA-335, II.24.2.1).
@@ -137,13 +132,15 @@ pub fn write_image(
     // where there is room for the section, the metadata lies in it
     requires metadata { IfOk (room_of img.now.bytes img.now.assembly) (λ room. (room ≤ metadata_rva) × (metadata_rva + metadata_len ≤ room + length section.now)) }
     ensures ok { IfOk result (λ out. grown_of img.now.bytes img.now.assembly section.now metadata_rva metadata_len ≡ Ok out) }
-    ensures short { IfOk result (λ out. length out ≤ 2 ^ 27) }
+    ensures short { IfOk result (λ out. length out ≤ IMAGE_LIMIT) }
     ensures kept { IfOk result (λ out. KeepsBytes img.now.bytes out) }
     ensures grows { IfOk result (Grows img.now.bytes img.now.assembly section.now metadata_rva metadata_len) }
-    ensures placed { IfOk result (λ out. part out (new_place img.now.bytes (length section.now)) (length section.now) ≡ section.now) }
+    ensures placed { IfOk result (λ out. part out (new_offset img.now.bytes (length section.now)) (length section.now) ≡ section.now) }
     ensures refused { OnRefused result (λ r. grown_of img.now.bytes img.now.assembly section.now metadata_rva metadata_len ≡ Err r) }
+    // P5 and L6 are tested before memory is taken.
+    ensures memory { OnMemory result (IsOk (grown_of img.now.bytes img.now.assembly section.now metadata_rva metadata_len)) }
 {
-    let cli = img.cli.grown(metadata_rva, metadata_len);
+    let cli = img.cli.with_metadata(metadata_rva, metadata_len);
     write(
         alloc,
         img.bytes,

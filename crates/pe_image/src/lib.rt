@@ -7,8 +7,6 @@ mod growth;
 mod headers;
 mod image;
 mod section;
-#[cfg(test)]
-mod tests;
 mod write;
 
 pub use cli::CliHeader;

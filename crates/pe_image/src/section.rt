@@ -16,7 +16,7 @@ pub struct Section {
     /// The RVA of its first byte.
     pub address: u32,
     pub raw_size: u32,
-    /// The place of its first raw byte in the file.
+    /// The offset of its first raw byte in the file.
     pub raw_at: u32,
 }
 
@@ -48,9 +48,9 @@ static SECTION_FIELDS: [Field; 6] = [
 ];
 
 impl Section {
-    ghost use Rattle.pe_image.specs.Sections.{section_at, holds, place_in, address_end, raw_end};
+    ghost use Rattle.pe_image.specs.Sections.{section_at, holds, offset_in, address_end, raw_end};
     ghost use Rattle.pe_image.specs.Rules.{is_misplaced};
-    ghost use Rattle.pe_image.specs.Written.{moved};
+    ghost use Rattle.pe_image.specs.Written.{moved_offset};
 
     /// The section whose header stands at `at`.
     pub fn read(bytes: &[u8], at: usize) -> Section
@@ -73,9 +73,9 @@ impl Section {
             && u64::from(rva) + u64::from(len) <= u64::from(self.address) + u64::from(self.raw_size)
     }
 
-    /// The place in the file of an RVA of its raw bytes.
-    pub fn place(&self, rva: u32) -> usize
-        ensures { result ≡ place_in self.now rva }
+    /// The offset in the file of an RVA of its raw bytes.
+    pub fn offset(&self, rva: u32) -> usize
+        ensures { result ≡ offset_in self.now rva }
     {
         self.raw_at as usize + rva.saturating_sub(self.address) as usize
     }
@@ -87,10 +87,10 @@ impl Section {
         (self.address as usize + self.raw_size as usize).saturating_sub(rva as usize)
     }
 
-    /// The place of its raw bytes, where all raw bytes move by as much.
-    pub fn moved(&self, by: u32) -> u32
+    /// The offset of its raw bytes, where all raw bytes move by as much.
+    pub fn moved_offset(&self, by: u32) -> u32
         requires { 0 < self.now.raw_size → self.now.raw_at + by < 2 ^ 32 }
-        ensures { result ≡ moved self.now by }
+        ensures { result ≡ moved_offset self.now by }
     {
         if self.raw_size > 0 {
             self.raw_at + by

@@ -1,68 +1,30 @@
 // The bytes of an image that has grown by one section.
 ghost use Rattle.std.specs.Prelude.{◌≡◌, ◌+◌, ◌-◌, ◌*◌, ◌<◌, ◌≤◌, ◌^◌, ◌++◌, length, replicate, Ok, Err, IfOk, OnOk};
-ghost use Rattle.std.specs.List.{flat_map, concat};
-ghost use Rattle.cil_base.specs.Refusals.{OnRefused};
+ghost use Rattle.std.specs.List.{concat};
+ghost use Rattle.std.specs.Result.{IsOk};
+ghost use Rattle.cil_base.specs.Refusals.{OnRefused, OnMemory};
 ghost use Rattle.pe_image.specs.Headers.{Fit, table_end, headers_size};
 ghost use Rattle.pe_image.specs.Images.{InOrder};
 ghost use Rattle.pe_image.specs.Sections.{section_at};
-ghost use Rattle.pe_image.specs.Written.{between, zeros, two_bytes, four_bytes, front, moved_header, moved_headers, new_header, grown_front, kept, grown_rest, grown_in};
+ghost use Rattle.pe_image.specs.Written.{front, moved_header, moved_headers, new_header, grown_front, kept_pieces, grown_rest, grown_in};
 
 use crate::cli::CliHeader;
-use crate::growth::{Growth, plan};
+use crate::growth::{SectionGrowth, plan};
 use crate::headers::{Headers, headers_size};
-use crate::image::part;
 use crate::section::Section;
-use cil_base::{Bytes, Fault};
+use cil_base::{Bytes, Fault, between, push_all, push_zeros, u16_bytes, u32_bytes};
 use sqlite_items::Items;
 use std::alloc::{AllocError, Global};
 
 /// Code that is executed and read.
 const CHARACTERISTICS: u32 = 0x6000_0020;
 
-#[tactic(auto, unfolding(crate::specs::Written::two_bytes))]
-fn two_bytes(n: u16) -> [u8; 2]
-    ensures { result ≡ two_bytes n }
-{
-    n.to_le_bytes()
-}
-
-#[tactic(auto, unfolding(crate::specs::Written::four_bytes))]
-fn four_bytes(n: u32) -> [u8; 4]
-    ensures { result ≡ four_bytes n }
-{
-    n.to_le_bytes()
-}
-
-fn between(bytes: &[u8], from: usize, to: usize) -> &[u8]
-    ensures { result.now ≡ between bytes.now from to }
-{
-    part(bytes, from, to.saturating_sub(from))
-}
-
-fn push_all(out: &mut Vec<u8>, pieces: &[&[u8]]) -> Result<(), AllocError>
-    ensures { OnOk result (out.new.items ≡ out.old.items ++ flat_map (λ p. p.now) pieces.now) }
-{
-    for piece in pieces {
-        out.extend_from_slice(piece)?;
-    }
-    Ok(())
-}
-
-fn push_zeros(out: &mut Vec<u8>, n: usize) -> Result<(), AllocError>
-    ensures { OnOk result (out.new.items ≡ out.old.items ++ zeros n) }
-{
-    for _i in 0..n {
-        out.push(0)?;
-    }
-    Ok(())
-}
-
 /// What stands before the section table.
 fn push_front(
     out: &mut Vec<u8>,
     bytes: &[u8],
     headers: &Headers,
-    growth: &Growth,
+    growth: &SectionGrowth,
 ) -> Result<(), AllocError>
     requires fit { Fit headers.now }
     requires few { headers.now.count < 65535 }
@@ -74,9 +36,9 @@ fn push_front(
         sections,
         count,
     } = *headers;
-    let count = two_bytes(count as u16 + 1);
-    let image_size = four_bytes(growth.image_size);
-    let headers_size = four_bytes(growth.headers_size);
+    let count = u16_bytes(count as u16 + 1);
+    let image_size = u32_bytes(growth.image_size);
+    let headers_size = u32_bytes(growth.headers_size);
     let zeros = [0; 8];
     let pieces = [
         between(bytes, 0, pe + 6),
@@ -102,7 +64,7 @@ fn push_moved(out: &mut Vec<u8>, bytes: &[u8], at: usize, by: u32) -> Result<(),
     requires short { 0 < (section_at bytes.now at).raw_size → (section_at bytes.now at).raw_at + by < 2 ^ 32 }
     ensures { OnOk result (out.new.items ≡ out.old.items ++ concat (moved_header bytes.now by at)) }
 {
-    let raw_at = four_bytes(Section::read(bytes, at).moved(by));
+    let raw_at = u32_bytes(Section::read(bytes, at).moved_offset(by));
     let pieces = [
         between(bytes, at, at + 20),
         &raw_at[..],
@@ -130,14 +92,14 @@ fn push_table(
 }
 
 /// The header of the new section of `len` bytes.
-fn push_header(out: &mut Vec<u8>, growth: &Growth, len: u32) -> Result<(), AllocError>
+fn push_header(out: &mut Vec<u8>, growth: &SectionGrowth, len: u32) -> Result<(), AllocError>
     ensures { OnOk result (out.new.items ≡ out.old.items ++ concat (new_header len growth.now)) }
 {
-    let len = four_bytes(len);
-    let address = four_bytes(growth.address);
-    let raw_size = four_bytes(growth.raw_size);
-    let raw_at = four_bytes(growth.raw_at);
-    let characteristics = four_bytes(CHARACTERISTICS);
+    let len = u32_bytes(len);
+    let address = u32_bytes(growth.address);
+    let raw_size = u32_bytes(growth.raw_size);
+    let raw_at = u32_bytes(growth.raw_at);
+    let characteristics = u32_bytes(CHARACTERISTICS);
     let zeros = [0; 12];
     let name = [b'.', b'c', b'c', b'r', b'w', 0, 0, 0];
     let pieces = [
@@ -158,7 +120,7 @@ fn push_headers(
     bytes: &[u8],
     assembly: u32,
     headers: &Headers,
-    growth: &Growth,
+    growth: &SectionGrowth,
     len: u32,
 ) -> Result<(), AllocError>
     requires order { InOrder bytes.now assembly headers.now }
@@ -187,11 +149,11 @@ fn push_kept(
     cli: &CliHeader,
 ) -> Result<(), AllocError>
     requires { cli_at + 72 ≤ length bytes.now }
-    ensures { OnOk result (out.new.items ≡ out.old.items ++ concat (kept bytes.now from cli_at cli.now)) }
+    ensures { OnOk result (out.new.items ≡ out.old.items ++ concat (kept_pieces bytes.now from cli_at cli.now)) }
 {
-    let rva = four_bytes(cli.metadata_rva);
-    let len = four_bytes(cli.metadata_len);
-    let flags = four_bytes(cli.flags);
+    let rva = u32_bytes(cli.metadata_rva);
+    let len = u32_bytes(cli.metadata_len);
+    let flags = u32_bytes(cli.flags);
     let zeros = [0; 8];
     let pieces = [
         between(bytes, from, cli_at + 8),
@@ -213,7 +175,7 @@ fn push_rest(
     cli_at: usize,
     cli: &CliHeader,
     section: &[u8],
-    growth: &Growth,
+    growth: &SectionGrowth,
 ) -> Result<(), AllocError>
     requires here { cli_at + 72 ≤ length bytes.now }
     requires size { headers.now.pe + 88 ≤ length bytes.now }
@@ -245,11 +207,9 @@ pub fn write(
     requires short { length section.now < 2 ^ 32 }
     ensures ok { IfOk result (λ out. grown_in bytes.now assembly headers.now cli_at cli.now section.now ≡ Ok out) }
     ensures refused { OnRefused result (λ r. grown_in bytes.now assembly headers.now cli_at cli.now section.now ≡ Err r) }
+    ensures memory { OnMemory result (IsOk (grown_in bytes.now assembly headers.now cli_at cli.now section.now)) }
 {
-    let growth = match plan(bytes, assembly, headers, section.len()) {
-        Ok(growth) => growth,
-        Err(refusal) => return Err(Fault::Refused(refusal)),
-    };
+    let growth = plan(bytes, assembly, headers, section.len())?;
     let len = growth.raw_at as usize + growth.raw_size as usize;
     let mut out = Vec::with_capacity(alloc, len)?;
     push_headers(

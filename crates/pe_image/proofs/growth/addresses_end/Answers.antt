@@ -1,6 +1,6 @@
 use Rattle.std.proofs.Common.{◌≡◌, ◌+◌, ◌-◌, ◌*◌, ◌∙◌, ap, sym, arith, max, ℕ}
 use Rattle.pe_image.specs.Sections.{section_at, sections_at, address_end}
-use Rattle.pe_image.specs.Growth.{addresses_end}
+use Rattle.pe_image.specs.SectionGrowth.{addresses_end}
 use Rattle.pe_image.proofs.SectionLaws.{left}
 use Rattle.pe_image.proofs.GrowthLaws.{ends_on}
 use Rattle.pe_image.proofs.growth.addresses_end.Goals as goal

@@ -1,6 +1,6 @@
 use Rattle.std.proofs.Common.{◌≡◌, ◌+◌, ◌-◌, ◌*◌, ◌<◌, ◌^◌, max}
 use Rattle.pe_image.specs.Sections.{sections_at}
-use Rattle.pe_image.specs.Growth.{addresses_end}
+use Rattle.pe_image.specs.SectionGrowth.{addresses_end}
 use Rattle.pe_image.proofs.growth.addresses_end.Given as goal
 
 abbrev pub invariant-loop-i : goal.invariant-loop-i

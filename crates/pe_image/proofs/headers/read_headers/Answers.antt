@@ -9,5 +9,5 @@ returns-in_err-headers-clause-tests c =
     let p = err_from_is_err_and c.from_residual-in_err-headers.result c.from_residual-in_err-headers.ensures.1 in
     rw (p.1, p.2)
     (c.in_ok-pe.ensures.tests
-    ∙ ap (λ (p : ℕ). first_of (coff_tests c.args.bytes.now c.args.assembly p)) (sym c.in_ok-pe.ensures.place)
+    ∙ ap (λ (p : ℕ). first_of (coff_tests c.args.bytes.now c.args.assembly p)) (sym c.in_ok-pe.ensures.offset)
     ∙ c.in_err-headers.ensures.tests)

@@ -1,6 +1,6 @@
 use Rattle.std.proofs.Common.{◌≡◌, ◌+◌, ◌-◌, ◌*◌, ◌∙◌, sym, ap, arith, min, ◌^◌, Some, cond, ℕ}
 use Rattle.std.specs.Prelude.{nat_lt}
-use Rattle.cil_base.specs.Refusals.{refusal, first_of}
+use Rattle.cil_base.specs.Refusals.{refusal, assembly_place, first_of}
 use Rattle.cil_base.specs.declared.rule.Rule.TheVariants.{P3}
 use Rattle.pe_image.specs.Sections.{address_end, raw_end, section_at}
 use Rattle.pe_image.specs.Rules.{section_tests}
@@ -19,7 +19,7 @@ returns-then-is_misplaced-clause-tests c =
     let h = c.args.headers.now in
     let at = h.sections + 40 * c.loop-i.i in
     let here : min at (2 ^ 32 - 1) ≡ at = omega arith in
-    ap Some (c.refusal_at.ensures ∙ ap (λ (k : ℕ). refusal P3 (record { assembly = c.args.assembly; table = 0; row = 0 }) k) here)
+    ap Some (c.refusal_at.ensures ∙ ap (λ (k : ℕ). refusal P3 (assembly_place c.args.assembly) k) here)
     ∙ sym (c.loop-i.invariant ∙ tests_here c.args.bytes.now c.args.assembly c.loop-i.address_floor c.loop-i.raw_floor at (h.count - c.loop-i.i) (h.count - (c.loop-i.i + 1)) (left h.count c.loop-i.i c.loop-i-test.true) (omega arith) cc)
 
 pub loop-i-preserved : goal.loop-i-preserved

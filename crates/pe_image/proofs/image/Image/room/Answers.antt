@@ -1,6 +1,6 @@
 use Rattle.std.proofs.Common.{◌∙◌, ap}
 use Rattle.pe_image.specs.Images.{File}
-use Rattle.pe_image.specs.Growth.{room_of}
+use Rattle.pe_image.specs.SectionGrowth.{room_of}
 use Rattle.pe_image.proofs.GrowthLaws.{room_is}
 use Rattle.pe_image.proofs.image.Image.room.Goals as goal
 

@@ -3,10 +3,11 @@ use Rattle.std.specs.Prelude.{ℕ, ◌+◌, ◌-◌, ◌^◌, Bool, ◌&&◌, na
 use Rattle.std.specs.Int.{next_multiple_of}
 use Rattle.cil_base.specs.declared.rule.Rule.TheVariants.{P5, L6}
 use Rattle.cil_base.specs.declared.refusal.Refusal.{Refusal}
-use Rattle.cil_base.specs.Refusals.{refusal}
+use Rattle.cil_base.specs.Refusals.{refusal, assembly_place, limit_refusal}
+use Rattle.cil_base.specs.declared.limits.TheConstants.{IMAGE_LIMIT}
 use Rattle.pe_image.specs.declared.headers.Headers.{Headers}
 use Rattle.pe_image.specs.declared.section.Section.{Section}
-use Rattle.pe_image.specs.declared.growth.Growth.{Growth}
+use Rattle.pe_image.specs.declared.growth.SectionGrowth.{SectionGrowth}
 use Rattle.pe_image.specs.Headers.{headers_of, headers_size, file_alignment, section_alignment, table_end}
 use Rattle.pe_image.specs.Sections.{sections_of, address_end}
 
@@ -35,11 +36,11 @@ abbrev pub has_room : List ℕ → Headers → Bool
 has_room bytes h =
     nat_le (grown_headers bytes h) (first_address (sections_of bytes h))
     && (nat_lt h.count 65535
-    && nat_lt (next_multiple_of (new_address bytes h + 2 ^ 27) (section_alignment bytes h)) (2 ^ 32))
+    && nat_lt (next_multiple_of (new_address bytes h + IMAGE_LIMIT) (section_alignment bytes h)) (2 ^ 32))
 
 -- no room, at the field of SizeOfHeaders
 abbrev pub no_room : ℕ → Headers → Refusal
-no_room a h = refusal P5 (record { assembly = a; table = 0; row = 0 }) (h.pe + 84)
+no_room a h = refusal P5 (assembly_place a) (h.pe + 84)
 
 -- the RVA of a new section, or the refusal where there is no room for its header
 abbrev pub room_in : List ℕ → ℕ → Headers → Result ℕ Refusal
@@ -49,7 +50,7 @@ unfoldable pub room_of : List ℕ → ℕ → Result ℕ Refusal
 room_of bytes a = room_in bytes a (headers_of bytes)
 
 -- where the new section of so many bytes comes to stand, and what the header fields on sizes become
-abbrev pub growth_of : List ℕ → Headers → ℕ → Growth
+abbrev pub growth_of : List ℕ → Headers → ℕ → SectionGrowth
 growth_of bytes h len = record {
   by = headers_growth bytes h;
   headers_size = grown_headers bytes h;
@@ -60,15 +61,15 @@ growth_of bytes h len = record {
 }
 
 -- the length of the written image
-abbrev pub grown_len : Growth → ℕ
+abbrev pub grown_len : SectionGrowth → ℕ
 grown_len g = g.raw_at + g.raw_size
 
 -- over 128 MiB
 abbrev pub too_long : Refusal
-too_long = refusal L6 (record { assembly = 0; table = 0; row = 0 }) (2 ^ 27 + 1)
+too_long = limit_refusal L6 IMAGE_LIMIT
 
-abbrev pub growth_in : List ℕ → ℕ → Headers → ℕ → Result Growth Refusal
+abbrev pub growth_in : List ℕ → ℕ → Headers → ℕ → Result SectionGrowth Refusal
 growth_in bytes a h len =
     if has_room bytes h
-    then (if nat_lt (2 ^ 27) (grown_len (growth_of bytes h len)) then Err too_long else Ok (growth_of bytes h len))
+    then (if nat_lt IMAGE_LIMIT (grown_len (growth_of bytes h len)) then Err too_long else Ok (growth_of bytes h len))
     else Err (no_room a h)
