@@ -1,4 +1,2 @@
 pub mod OpcodeLaws
 mod MethodListLaws
-mod PrintLaws
-mod TextLaws
