@@ -4,7 +4,7 @@ ghost use Rattle.cli_sigs.specs.Elements.{element_of, element_in, is_leaf, may_s
 ghost use Rattle.cli_sigs.specs.Methods.{may_begin, returned};
 
 /// What the first byte of a type says.
-#[derive(Clone, Copy, Debug, PartialEq, Eq)]
+#[derive(Clone, Copy)]
 pub enum Element {
     Prim(u8),
     Ptr,
@@ -23,7 +23,7 @@ pub enum Element {
 }
 
 /// Where a type stands: what may stand there beside the types that may stand anywhere.
-#[derive(Clone, Copy, Debug, PartialEq, Eq)]
+#[derive(Clone, Copy)]
 pub enum Slot {
     /// A field, an item of an array or an argument of an instance: nothing else.
     Plain,
@@ -40,7 +40,7 @@ pub enum Slot {
 }
 
 /// Whose signature it is: a method's, that of a method behind FNPTR, or a property's.
-#[derive(Clone, Copy, Debug, PartialEq, Eq)]
+#[derive(Clone, Copy)]
 pub enum MethodKind {
     Method,
     Pointer,
