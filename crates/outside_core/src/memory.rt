@@ -11,7 +11,7 @@ use sqlite_items::Items;
 use std::alloc::{AllocError, Global};
 
 /// A file with its name.
-#[derive(Debug, Drop)]
+#[derive(Drop)]
 pub struct Entry {
     name: Bytes,
     bytes: Bytes,
