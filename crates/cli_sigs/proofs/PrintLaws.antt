@@ -10,8 +10,8 @@ use Rattle.cli_sigs.specs.declared.types.SigTy.TheOpen.{SigTy-F}
 use Rattle.cli_sigs.specs.declared.types.SigTy.TheVariants as ty
 use Rattle.cli_sigs.specs.declared.types.SigTy.TheVariants.{rolls-Prim}
 use Rattle.cli_sigs.specs.declared.types.MethodSig.{MethodSig, out-MethodSig, roll-out-MethodSig}
-use Rattle.cli_sigs.specs.Elements.{kept}
-use Rattle.cli_sigs.specs.Methods.{returned, is_generic, is_vararg}
+use Rattle.cli_sigs.specs.Elements.{slot_behind}
+use Rattle.cli_sigs.specs.Methods.{result_slot, is_generic, is_vararg}
 use Rattle.cil_base.proofs.Small.{on_ok}
 use Rattle.cli_sigs.specs.Numbers.{Shortest, IsNumber, IsSignedNumber, IsCodedBy}
 use Rattle.cli_sigs.specs.Grammar.{Adds, Behind, Each, CountedBy, IsGenericsBy, IsParams, all_fixed, some_extra, IsMethodBy, method, LayerBy, prim, array, inst, modified, IsTypeBy, named_byte, modifier_byte, method_of}
@@ -77,7 +77,7 @@ params_in P vararg bs ts s h (some_extra front back fixed extra t ef eb n) = som
 module _ (I : Slot → List ℕ → SigTy → Type 0) where
   pub method_adds : (Inner : Slot → SigTy → Type 0) (kind : MethodKind) (sig : MethodSig) (o0 o1 o2 o3 o4 o5 : List ℕ) → IsValidMethod Inner kind sig
       → o1 ≡ o0 ++ (out-MethodSig sig).flags ∷ [] → Adds (IsGenericsBy Shortest (is_generic (out-MethodSig sig).flags)) o1 o2 (out-MethodSig sig).generics → Adds (IsNumber Shortest) o2 o3 (length (out-MethodSig sig).params)
-      → Adds (I (returned kind)) o3 o4 (out-MethodSig sig).result → Adds (λ bs ts. IsParams (I Param) true bs ts (out-MethodSig sig).sentinel) o4 o5 (out-MethodSig sig).params → Adds (IsMethodBy Shortest I kind) o0 o5 sig
+      → Adds (I (result_slot kind)) o3 o4 (out-MethodSig sig).result → Adds (λ bs ts. IsParams (I Param) true bs ts (out-MethodSig sig).sentinel) o4 o5 (out-MethodSig sig).params → Adds (IsMethodBy Shortest I kind) o0 o5 sig
   method_adds Inner kind sig o0 o1 o2 o3 o4 o5 valid e1 (gs, e2, g) (ns, e3, n) (rs, e4, r) (ps, e5, p) =
       let m = out-MethodSig sig in
       let all : o5 ≡ o0 ++ (m.flags ∷ gs ++ (ns ++ (rs ++ ps))) =
@@ -114,7 +114,7 @@ module _ (I : Slot → List ℕ → SigTy → Type 0) where
         let all : o3 ≡ o0 ++ (0x15 ∷ named_byte value ∷ cs ++ ts) = e3 ∙ ap (λ (l : List ℕ). l ++ ts) (e2 ∙ ap (λ (l : List ℕ). l ++ bs) e1 ∙ ap (λ (l : List ℕ). (o0 ++ 0x15 ∷ []) ++ l) m) ∙ simp append_assoc in
         (0x15 ∷ named_byte value ∷ cs ++ ts, all, subst (λ (x : SigTy). LayerBy Shortest I slot (0x15 ∷ named_byte value ∷ cs ++ ts) x) (sym is) (inst value args cs ts pc ca))
 
-    pub modified_adds : (v t : SigTy) (required : Bool) (coded : ℕ) (o0 o1 o2 : List ℕ) → v ≡ ty.Modified required coded t → Adds (Behind (modifier_byte required) (IsCodedBy Shortest)) o0 o1 coded → Adds (I (kept slot)) o1 o2 t → Adds (LayerBy Shortest I slot) o0 o2 v
+    pub modified_adds : (v t : SigTy) (required : Bool) (coded : ℕ) (o0 o1 o2 : List ℕ) → v ≡ ty.Modified required coded t → Adds (Behind (modifier_byte required) (IsCodedBy Shortest)) o0 o1 coded → Adds (I (slot_behind slot)) o1 o2 t → Adds (LayerBy Shortest I slot) o0 o2 v
     modified_adds v t required coded o0 o1 o2 is (bs, e1, (cs, m, pc)) (ts, e2, it) =
         let all : o2 ≡ o0 ++ (modifier_byte required ∷ cs ++ ts) = e2 ∙ ap (λ (l : List ℕ). l ++ ts) (e1 ∙ ap (λ (l : List ℕ). o0 ++ l) m) ∙ simp append_assoc in
         (modifier_byte required ∷ cs ++ ts, all, subst (λ (x : SigTy). LayerBy Shortest I slot (modifier_byte required ∷ cs ++ ts) x) (sym is) (modified required cs ts pc it))

@@ -14,7 +14,7 @@ use Rattle.cli_sigs.specs.declared.types.SigTy.TheOpen.{SigTy-F}
 use Rattle.cli_sigs.specs.declared.types.SigTy.TheVariants as ty
 use Rattle.cli_sigs.specs.declared.types.MethodSig.{MethodSig, out-roll-MethodSig}
 use Rattle.cli_sigs.specs.declared.types.MethodSig.{MethodSig-F}
-use Rattle.cli_sigs.specs.Methods.{returned, is_generic, is_vararg}
+use Rattle.cli_sigs.specs.Methods.{result_slot, is_generic, is_vararg}
 use Rattle.cli_sigs.specs.Numbers.{IsPacked, IsSigned, unrotated, half_of}
 use Rattle.cli_sigs.specs.Grammar.{Each, Counted, IsGenerics, IsParams, all_fixed, some_extra, IsMethod, method, Layer, prim, ptr, by_ref, named, var, mvar, array, inst, func, sz_array, modified, pinned, IsType, IsTypeBy}
 use Rattle.cli_sigs.specs.Valid.{IsShort, IsShortSigned, AllCounted, AreGenerics, StandsBefore, IsValidOpenMethod, IsValidMethod, IsValidForm, IsValidType}
@@ -75,7 +75,7 @@ module _ (Inner : Slot → List ℕ → SigTy → Type 0) (Valid : Slot → SigT
       let m : MethodSig-F SigTy MethodSig = record { flags = f; generics = g; result = t; params = ts; sentinel = s } in
       let all = params_valid (is_vararg f) ps ts s pp in
       subst (λ (x : MethodSig-F SigTy MethodSig). IsValidOpenMethod Valid kind x) (sym (out-roll-MethodSig m))
-      (record { begins = fh; generics = generics_valid (is_generic f) gs g gg; result = h (returned kind) rs t it; params = (short ns (length ts) pn, all.0); sentinel = all.1 })
+      (record { begins = fh; generics = generics_valid (is_generic f) gs g gg; result = h (result_slot kind) rs t it; params = (short ns (length ts) pn, all.0); sentinel = all.1 })
 
   layer_valid : (slot : Slot) (bs : List ℕ) (t : SigTy) → Layer Inner slot bs t → IsValidForm Valid slot (out-SigTy t)
   layer_valid slot bs t (prim {b = b} p a) = form_is slot Valid (ty.Prim b) (SigTy-F.Prim b) (ty.rolls-Prim b) (p, a)

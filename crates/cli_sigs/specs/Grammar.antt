@@ -5,11 +5,11 @@ use Rattle.cli_sigs.specs.declared.elements.Slot.TheVariants.{Plain, Pointed, Pa
 use Rattle.cli_sigs.specs.declared.types.SigTy.{SigTy}
 use Rattle.cli_sigs.specs.declared.types.SigTy.TheVariants as ty
 use Rattle.cli_sigs.specs.declared.types.MethodSig.{MethodSig, roll-MethodSig}
-use Rattle.cli_sigs.specs.Elements.{is_prim, may_stand, allows_by_ref, allows_pinned, kept}
+use Rattle.cli_sigs.specs.Elements.{is_prim, may_stand, allows_by_ref, allows_pinned, slot_behind}
 use Rattle.cli_sigs.specs.declared.elements.MethodKind.{MethodKind}
 use Rattle.cli_sigs.specs.declared.elements.MethodKind.TheVariants.{Method, Pointer, Property}
 use Rattle.cli_sigs.specs.Numbers.{Spelling, Any, Shortest, IsNumber, IsSignedNumber, IsCodedBy}
-use Rattle.cli_sigs.specs.Methods.{may_begin, returned, is_generic, is_vararg}
+use Rattle.cli_sigs.specs.Methods.{may_begin, result_slot, is_generic, is_vararg}
 
 -- ---- lists
 
@@ -46,7 +46,7 @@ method_of flags generics result params sentinel = roll-MethodSig (record { flags
 
 pub data IsMethodBy (s : Spelling) (Inner : Slot → List ℕ → SigTy → Type 0) (kind : MethodKind) : List ℕ → MethodSig → Type 0 where
   method : {flags generics : ℕ} {result : SigTy} {params : List SigTy} {sentinel : Option ℕ} (gs ns rs ps : List ℕ)
-      → may_begin kind flags ≡ true → IsGenericsBy s (is_generic flags) gs generics → IsNumber s ns (length params) → Inner (returned kind) rs result → IsParams (Inner Param) (is_vararg flags) ps params sentinel
+      → may_begin kind flags ≡ true → IsGenericsBy s (is_generic flags) gs generics → IsNumber s ns (length params) → Inner (result_slot kind) rs result → IsParams (Inner Param) (is_vararg flags) ps params sentinel
       → IsMethodBy s Inner kind (flags ∷ gs ++ (ns ++ (rs ++ ps))) (method_of flags generics result params sentinel)
 
 abbrev pub IsMethod : (Slot → List ℕ → SigTy → Type 0) → MethodKind → List ℕ → MethodSig → Type 0
@@ -76,9 +76,9 @@ pub data LayerBy (s : Spelling) (Inner : Slot → List ℕ → SigTy → Type 0)
       → LayerBy s Inner slot (0x15 ∷ named_byte value ∷ cs ++ ts) (ty.Inst value coded args)
   func : {bytes : List ℕ} {m : MethodSig} → IsMethodBy s Inner Pointer bytes m → LayerBy s Inner slot (0x1B ∷ bytes) (ty.Func m)
   sz_array : {bytes : List ℕ} {t : SigTy} → Inner Plain bytes t → LayerBy s Inner slot (0x1D ∷ bytes) (ty.SzArray t)
-  modified : {coded : ℕ} {t : SigTy} (required : Bool) (cs ts : List ℕ) → IsCodedBy s cs coded → Inner (kept slot) ts t
+  modified : {coded : ℕ} {t : SigTy} (required : Bool) (cs ts : List ℕ) → IsCodedBy s cs coded → Inner (slot_behind slot) ts t
       → LayerBy s Inner slot (modifier_byte required ∷ cs ++ ts) (ty.Modified required coded t)
-  pinned : {bytes : List ℕ} {t : SigTy} → allows_pinned slot ≡ true → Inner (kept slot) bytes t → LayerBy s Inner slot (0x45 ∷ bytes) (ty.Pinned t)
+  pinned : {bytes : List ℕ} {t : SigTy} → allows_pinned slot ≡ true → Inner (slot_behind slot) bytes t → LayerBy s Inner slot (0x45 ∷ bytes) (ty.Pinned t)
 
 abbrev pub Layer : (Slot → List ℕ → SigTy → Type 0) → Slot → List ℕ → SigTy → Type 0
 Layer = LayerBy Any

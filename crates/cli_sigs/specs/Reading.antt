@@ -9,12 +9,12 @@ use Rattle.cli_sigs.specs.declared.types.SigTy.TheVariants as ty
 use Rattle.cli_sigs.specs.declared.types.MethodSig.{MethodSig}
 use Rattle.cli_sigs.specs.declared.numbers.Stop.{Stop}
 use Rattle.cli_sigs.specs.declared.numbers.Stop.TheVariants as stop
-use Rattle.cli_sigs.specs.Elements.{element_in, is_leaf, kept}
+use Rattle.cli_sigs.specs.Elements.{element_in, is_leaf, slot_behind}
 use Rattle.cli_sigs.specs.Numbers.{unrotated, has_table}
 use Rattle.cli_sigs.specs.Read.{Outcome, Reader, ◌>>=◌, pure, maps, byte_as, byte_where, many, marked}
 use Rattle.cli_sigs.specs.declared.elements.MethodKind.{MethodKind}
 use Rattle.cli_sigs.specs.declared.elements.MethodKind.TheVariants.{Pointer}
-use Rattle.cli_sigs.specs.Methods.{may_begin, returned, is_generic, is_vararg}
+use Rattle.cli_sigs.specs.Methods.{may_begin, result_slot, is_generic, is_vararg}
 use Rattle.cli_sigs.specs.Grammar.{method_of}
 
 -- ---- numbers
@@ -92,7 +92,7 @@ params_after false r n = maps (λ ts. (ts, None)) (many n r)
 
 unfoldable pub method_at : MethodKind → (Slot → Reader SigTy) → Reader MethodSig
 method_at kind inner =
-    byte_where (may_begin kind) >>= (λ flags. generics_after (is_generic flags) >>= (λ generics. packed >>= (λ n. inner (returned kind) >>= (λ result.
+    byte_where (may_begin kind) >>= (λ flags. generics_after (is_generic flags) >>= (λ generics. packed >>= (λ n. inner (result_slot kind) >>= (λ result.
     maps (λ p. method_of flags generics result p.0 p.1) (params_after (is_vararg flags) (inner Param) n)))))
 
 -- ---- types
@@ -120,8 +120,8 @@ type_after inner slot e.Array = array_of inner
 type_after inner slot e.Inst = inst_of inner
 type_after inner slot e.Func = maps ty.Func (method_at Pointer inner)
 type_after inner slot e.SzArray = maps ty.SzArray (inner Plain)
-type_after inner slot (e.Modified required) = modified_of required (inner (kept slot))
-type_after inner slot e.Pinned = maps ty.Pinned (inner (kept slot))
+type_after inner slot (e.Modified required) = modified_of required (inner (slot_behind slot))
+type_after inner slot e.Pinned = maps ty.Pinned (inner (slot_behind slot))
 
 abbrev pub keep_leaf : Option Element → Option Element
 keep_leaf (Some k) = if is_leaf k then Some k else None

@@ -9,8 +9,8 @@ use Rattle.cli_sigs.specs.declared.types.SigTy.{SigTy, out-SigTy}
 use Rattle.cli_sigs.specs.declared.types.SigTy.TheOpen.{SigTy-F}
 use Rattle.cli_sigs.specs.declared.types.MethodSig.{MethodSig, out-MethodSig}
 use Rattle.cli_sigs.specs.declared.types.MethodSig.{MethodSig-F}
-use Rattle.cli_sigs.specs.Elements.{is_prim, may_stand, allows_by_ref, allows_pinned, kept}
-use Rattle.cli_sigs.specs.Methods.{may_begin, returned, is_generic, is_vararg}
+use Rattle.cli_sigs.specs.Elements.{is_prim, may_stand, allows_by_ref, allows_pinned, slot_behind}
+use Rattle.cli_sigs.specs.Methods.{may_begin, result_slot, is_generic, is_vararg}
 use Rattle.cli_sigs.specs.Numbers.{has_table}
 
 -- ---- numbers and lists
@@ -50,7 +50,7 @@ StandsBefore vararg params (Some k) = (vararg ≡ true) × (k < params)
 pub record IsValidOpenMethod (Inner : Slot → SigTy → Type 0) (kind : MethodKind) (m : MethodSig-F SigTy MethodSig) : Type 0 where
   pub begins : may_begin kind m.flags ≡ true
   pub generics : AreGenerics (is_generic m.flags) m.generics
-  pub result : Inner (returned kind) m.result
+  pub result : Inner (result_slot kind) m.result
   pub params : AllCounted (Inner Param) m.params
   pub sentinel : StandsBefore (is_vararg m.flags) (length m.params) m.sentinel
 
@@ -71,8 +71,8 @@ IsValidForm Inner slot (SigTy-F.Array t rank sizes lows) = Inner Plain t × IsSh
 IsValidForm Inner slot (SigTy-F.Inst value coded args) = IsShortCoded coded × AllCounted (Inner Plain) args
 IsValidForm Inner slot (SigTy-F.Func m) = IsValidMethod Inner Pointer m
 IsValidForm Inner slot (SigTy-F.SzArray t) = Inner Plain t
-IsValidForm Inner slot (SigTy-F.Modified required coded t) = IsShortCoded coded × Inner (kept slot) t
-IsValidForm Inner slot (SigTy-F.Pinned t) = (allows_pinned slot ≡ true) × Inner (kept slot) t
+IsValidForm Inner slot (SigTy-F.Modified required coded t) = IsShortCoded coded × Inner (slot_behind slot) t
+IsValidForm Inner slot (SigTy-F.Pinned t) = (allows_pinned slot ≡ true) × Inner (slot_behind slot) t
 
 -- a type that is nested at most so deep: one more than the deepest of its parts
 unfoldable pub IsValidType : ℕ → Slot → SigTy → Type 0

@@ -1,7 +1,7 @@
 // Element types: what the first byte of a type says (ECMA-335, II.23.1.16), and where it may stand.
 ghost use Rattle.std.specs.Prelude.{◌≡◌};
-ghost use Rattle.cli_sigs.specs.Elements.{element_of, element_in, is_leaf, may_stand, kept};
-ghost use Rattle.cli_sigs.specs.Methods.{may_begin, returned};
+ghost use Rattle.cli_sigs.specs.Elements.{element_of, element_in, is_leaf, may_stand, slot_behind};
+ghost use Rattle.cli_sigs.specs.Methods.{may_begin, result_slot};
 
 /// What the first byte of a type says.
 #[derive(Clone, Copy)]
@@ -89,8 +89,8 @@ impl MethodKind {
     }
 
     /// Where the result of this kind stands: a property is not void.
-    pub fn returned(self) -> Slot
-        ensures { result ≡ returned self }
+    pub fn result_slot(self) -> Slot
+        ensures { result ≡ result_slot self }
     {
         match self {
             MethodKind::Property => Slot::Param,
@@ -101,8 +101,8 @@ impl MethodKind {
 
 impl Slot {
     /// Where the type behind a modifier or PINNED stands.
-    pub fn kept(self) -> Slot
-        ensures { result ≡ kept self }
+    pub fn slot_behind(self) -> Slot
+        ensures { result ≡ slot_behind self }
     {
         match self {
             Slot::Local => Slot::Constrained,

@@ -236,7 +236,7 @@ fn push_method(
     push_byte(out, sig.flags)?;
     push_generics(out, is_generic(sig.flags), sig.generics)?;
     push_number(out, sig.params.len() as u32)?;
-    push_type(out, depth, kind.returned(), &sig.result)?;
+    push_type(out, depth, kind.result_slot(), &sig.result)?;
     push_params(out, depth, sig.params.as_slice(), sig.sentinel)
 }
 
@@ -296,9 +296,9 @@ fn push_form(out: &mut Vec<u8>, depth: u32, slot: Slot, ty: &SigTy) -> Result<()
             inner,
         } => {
             push_coded(out, modifier_byte(*required), *coded)?;
-            push_type(out, depth, slot.kept(), inner.get())
+            push_type(out, depth, slot.slot_behind(), inner.get())
         }
-        SigTy::Pinned(inner) => push_behind(out, 0x45, depth, slot.kept(), inner.get()),
+        SigTy::Pinned(inner) => push_behind(out, 0x45, depth, slot.slot_behind(), inner.get()),
     }
 }
 

@@ -2,7 +2,7 @@
 ghost use Rattle.std.specs.Prelude.{◌≡◌};
 ghost use Rattle.std.specs.Option.{option_map};
 ghost use Rattle.cli_sigs.specs.Read.{many, byte_where, with_front, behind};
-ghost use Rattle.cli_sigs.specs.Methods.{may_begin, returned, is_generic, is_vararg};
+ghost use Rattle.cli_sigs.specs.Methods.{may_begin, result_slot, is_generic, is_vararg};
 ghost use Rattle.cli_sigs.specs.Reading.{Gives, type_at, type_after, leaf_after, bare_inst, array_of, inst_of, modified_of, counted, generics_after, open_params, params_after, method_at};
 
 use crate::elements::{Element, MethodKind, Slot};
@@ -236,7 +236,7 @@ pub fn method_of(
     let (flags, bytes) = first_byte(kind, bytes)?;
     let (generics, bytes) = generics(is_generic(flags), bytes)?;
     let (count, bytes) = packed(bytes)?;
-    let (result, bytes) = type_of(alloc, depth, kind.returned(), bytes)?;
+    let (result, bytes) = type_of(alloc, depth, kind.result_slot(), bytes)?;
     let (
         Params {
             types: params,
@@ -302,7 +302,7 @@ fn after(
         }
         Element::Modified(required) => {
             let (modifier, bytes) = coded_index(bytes)?;
-            let (inner, bytes) = boxed(alloc, depth, slot.kept(), bytes)?;
+            let (inner, bytes) = boxed(alloc, depth, slot.slot_behind(), bytes)?;
             Ok((
                 SigTy::Modified {
                     required,
@@ -313,7 +313,7 @@ fn after(
             ))
         }
         Element::Pinned => {
-            let (inner, bytes) = boxed(alloc, depth, slot.kept(), bytes)?;
+            let (inner, bytes) = boxed(alloc, depth, slot.slot_behind(), bytes)?;
             Ok((SigTy::Pinned(inner), bytes))
         }
     }

@@ -34,7 +34,7 @@ fn refusal_of(error: io::Error) -> StoreRefusal {
     }
 }
 
-fn owned(alloc: Global, text: &str) -> Result<String, StoreRefusal> {
+fn copy_of_name(alloc: Global, text: &str) -> Result<String, StoreRefusal> {
     String::from_str(alloc, text).map_err(StoreRefusal::Memory)
 }
 
@@ -55,7 +55,7 @@ fn path_behind<R: Files>(
     found: &Metadata,
 ) -> Result<String, StoreRefusal> {
     if !found.is_symlink() {
-        return owned(alloc, name);
+        return copy_of_name(alloc, name);
     }
     match rt.canonicalize(alloc, name) {
         Ok(path) => Ok(path.into_string()),
@@ -68,7 +68,7 @@ fn target_of<R: Files>(rt: &R, alloc: Global, name: &str) -> Result<Target, Stor
     let found = match fs::symlink_metadata(rt, name) {
         Ok(found) => found,
         Err(e) if e.kind() == ErrorKind::NotFound => {
-            let path = owned(alloc, name)?;
+            let path = copy_of_name(alloc, name)?;
             return Ok(Target { path, mode: None });
         }
         Err(e) => return Err(refusal_of(e)),

@@ -21,7 +21,8 @@ pub(crate) fn read_whole<R: Read + Drop>(
     ensures whole { cap < 2 ^ 64 - 1 → IfSome (R.remaining reader) (λ left. IfOk result (λ bytes. bytes.items ≡ left)) }
     ensures long { cap < 2 ^ 64 - 1 → IfSome (R.remaining reader) (λ left. TooLongOnly result (cap < length left)) }
 {
-    let mut bytes = match Vec::with_capacity(alloc, size) {
+    // Room for one more, so that the end is seen without growing.
+    let mut bytes = match Vec::with_capacity(alloc, size.saturating_add(1)) {
         Ok(bytes) => bytes,
         Err(e) => return Err(ReadRefusal::Memory(e)),
     };

@@ -6,7 +6,7 @@ use Rattle.cli_sigs.specs.declared.types.SigTy.TheVariants as ty
 use Rattle.cli_sigs.specs.declared.types.SigTy.TheVariants.{rolls-ByRef, rolls-Pinned}
 use Rattle.cli_sigs.specs.declared.types.SigTy.TheOpen.{SigTy-F}
 use Rattle.cli_sigs.specs.declared.types.MethodSig.{out-MethodSig}
-use Rattle.cli_sigs.specs.Elements.{kept}
+use Rattle.cli_sigs.specs.Elements.{slot_behind}
 use Rattle.cil_base.proofs.Small.{on_ok}
 use Rattle.cli_sigs.specs.Numbers.{Shortest, IsNumber, IsCodedBy}
 use Rattle.cli_sigs.specs.Grammar.{IsTypeBy, IsMethodBy, ptr, by_ref, named, var, mvar, func, sz_array, pinned, named_byte}
@@ -41,7 +41,7 @@ push_method-returns t c =
     let m = out-MethodSig c.args.sig.now in
     let generics = rw c.is_generic.ensures at c.in_ok-push_generics.ensures in
     let count = rw c.len.ensures at c.in_ok-push_number.ensures in
-    let result = rw c.returned.ensures at c.in_ok-push_type.ensures in
+    let result = rw c.result_slot.ensures at c.in_ok-push_type.ensures in
     on_ok c.push_params.result
     (method_adds (IsTypeBy Shortest c.args.depth) (IsValidType c.args.depth) c.args.kind c.args.sig.now c.args.out.now.items c.push_byte.new.out.items c.push_generics.new.out.items c.push_number.new.out.items c.push_type.new.out.items c.push_params.new.out.items c.requires c.in_ok-push_byte.ensures generics count result)
     (rw c.as_slice.ensures at c.push_params.ensures)
@@ -76,7 +76,7 @@ push_form-returns-in-SzArray t c =
 
 pub push_form-returns-in-Pinned : goal.push_form-returns-in-Pinned
 push_form-returns-in-Pinned t c =
-    form_adds (IsTypeBy Shortest c.args.depth) c.args.slot (IsTypeBy Shortest c.args.depth (kept c.args.slot)) 0x45 c.in-Pinned.inner c.args.ty.now (ty.Pinned c.in-Pinned.inner) c.args.out.now.items c.push_behind-in-Pinned.new.out.items c.push_behind-in-Pinned.result (λ text g. pinned (in_form (IsValidType c.args.depth) c.args.slot c.args.ty.now (ty.Pinned c.in-Pinned.inner) (SigTy-F.Pinned c.in-Pinned.inner) c.in-Pinned.is (rolls-Pinned c.in-Pinned.inner) c.requires).0 g) c.in-Pinned.is (rw (c.kept-in-Pinned.ensures, c.get-in-Pinned.ensures) at c.push_behind-in-Pinned.ensures)
+    form_adds (IsTypeBy Shortest c.args.depth) c.args.slot (IsTypeBy Shortest c.args.depth (slot_behind c.args.slot)) 0x45 c.in-Pinned.inner c.args.ty.now (ty.Pinned c.in-Pinned.inner) c.args.out.now.items c.push_behind-in-Pinned.new.out.items c.push_behind-in-Pinned.result (λ text g. pinned (in_form (IsValidType c.args.depth) c.args.slot c.args.ty.now (ty.Pinned c.in-Pinned.inner) (SigTy-F.Pinned c.in-Pinned.inner) c.in-Pinned.is (rolls-Pinned c.in-Pinned.inner) c.requires).0 g) c.in-Pinned.is (rw (c.slot_behind-in-Pinned.ensures, c.get-in-Pinned.ensures) at c.push_behind-in-Pinned.ensures)
 
 pub push_form-returns-in_ok-push_byte-in-Func : goal.push_form-returns-in_ok-push_byte-in-Func
 push_form-returns-in_ok-push_byte-in-Func t c =
@@ -104,7 +104,7 @@ push_form-returns-in_ok-push_coded-in-Modified t c =
     let coded = rw c.modifier_byte.ensures at c.in_ok-push_coded-in-Modified.ensures in
     on_ok c.push_type.result
     (modified_adds (IsTypeBy Shortest c.args.depth) c.args.slot c.args.ty.now c.in-Modified.inner c.in-Modified.required c.in-Modified.coded c.args.out.now.items c.push_coded-in-Modified.new.out.items c.push_type.new.out.items c.in-Modified.is coded)
-    (rw (c.kept.ensures, c.get-in-Modified.ensures) at c.push_type.ensures)
+    (rw (c.slot_behind.ensures, c.get-in-Modified.ensures) at c.push_type.ensures)
 
 pub push_type-overflow_sub-depth : goal.push_type-overflow_sub-depth
 push_type-overflow_sub-depth t c = deep c.args.depth c.args.slot c.args.ty.now c.requires
