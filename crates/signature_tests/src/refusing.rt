@@ -27,10 +27,23 @@ enum Kind {
 }
 
 /// The offset of a refusal by this rule at PLACE.
+fn offset_of(fault: Fault, rule: Rule) -> Option<u32> {
+    match fault {
+        Fault::Refused(r) => {
+            if r == PLACE.refusal(rule, r.at) {
+                Some(r.at)
+            } else {
+                None
+            }
+        }
+        Fault::Memory(_) => None,
+    }
+}
+
 fn refused_at<T: Drop>(read: Result<T, Fault>, rule: Rule) -> Option<u32> {
     match read {
-        Err(Fault::Refused(r)) if r == PLACE.refusal(rule, r.at) => Some(r.at),
-        _ => None,
+        Ok(_) => None,
+        Err(fault) => offset_of(fault, rule),
     }
 }
 
