@@ -22,11 +22,13 @@ pub(crate) fn read_whole<R: Read + Drop>(
     ensures long { cap < 2 ^ 64 - 1 → IfSome (R.remaining reader) (λ left. TooLongOnly result (cap < length left)) }
 {
     // Room for one more, so that the end is seen without growing.
-    let mut bytes = match Vec::with_capacity(alloc, size.saturating_add(1)) {
+    let room = size.saturating_add(1);
+    let limit = cap.saturating_add(1);
+    let mut bytes = match Vec::with_capacity(alloc, room) {
         Ok(bytes) => bytes,
         Err(e) => return Err(ReadRefusal::Memory(e)),
     };
-    let mut limited = reader.take(cap.saturating_add(1));
+    let mut limited = reader.take(limit);
     match limited.read_to_end(&mut bytes) {
         Ok(_) => {}
         Err(e) if e.kind() == ErrorKind::OutOfMemory => {
