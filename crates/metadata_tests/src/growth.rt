@@ -133,39 +133,24 @@ fn a_missing_heap_comes_behind_the_others(rt: HostRuntime) -> Result<(), Fault> 
 }
 
 /// The rule and the limit of a refusal.
-fn limit_of<T: Drop>(result: Result<T, Fault>) -> Option<(Rule, u32)> {
-    match result {
+fn limit_of<T: Drop>(answer: Result<T, Fault>) -> Option<(Rule, u32)> {
+    match answer {
         Err(Fault::Refused(refusal)) => Some((refusal.rule, refusal.at)),
         _ => None,
     }
 }
 
-/// Whether a text of 2^23 units, whose entry alone is too long for `#US`, is refused.
-fn long_text_is_refused(alloc: Global) -> Result<bool, Fault> {
-    let mut builder = builder(alloc)?;
-    let mut units = Vec::new(alloc);
-    for _ in 0..0x80_0000u32 {
-        units.push(0x61u16)?;
-    }
-    Ok(limit_of(builder.append_user(&units)) == Some((Rule::L5, 0x100_0001)))
-}
-
-#[test]
-fn a_heap_keeps_its_limit(rt: HostRuntime) -> Result<(), Fault> {
-    assert!(rt; long_text_is_refused(rt.alloc())?);
-    Ok(())
-}
-
-/// A root of 1 MiB with `#~` and 149 streams that each are the whole of it.
-fn overlapping(alloc: Global) -> Result<Vec<u8>, AllocError> {
+/// A root of 1 MiB with `#~` and other streams, so many in all, that begin with the root and have
+/// so many bytes.
+fn many_streams(alloc: Global, count: u16, size: u32) -> Result<Vec<u8>, AllocError> {
     let mut meta = Vec::from_slice(alloc, b"BSJB\x01\0\x01\0\0\0\0\0\x04\0\0\0v1\0\0\0\0")?;
-    push_u16(&mut meta, 150)?;
-    push_u32(&mut meta, 24 + 150 * 12)?;
+    push_u16(&mut meta, count)?;
+    push_u32(&mut meta, 24 + 12 * u32::from(count))?;
     push_u32(&mut meta, 24)?;
     meta.extend_from_slice(b"#~\0\0")?;
-    for _ in 0..149u8 {
+    for _ in 1..count {
         push_u32(&mut meta, 0)?;
-        push_u32(&mut meta, 0x10_0000)?;
+        push_u32(&mut meta, size)?;
         meta.extend_from_slice(b"#A\0\0")?;
     }
     let gap = 0x10_0000usize.saturating_sub(meta.len());
@@ -173,26 +158,24 @@ fn overlapping(alloc: Global) -> Result<Vec<u8>, AllocError> {
     Ok(meta)
 }
 
-/// Whether the streams, which written apart have 149 MiB, are refused before they are copied.
-fn overlapping_streams_are_refused(alloc: Global) -> Result<bool, Fault> {
-    let meta = overlapping(alloc)?;
+/// What writing such a root with one text more is refused by.
+fn limit_with(alloc: Global, count: u16, size: u32) -> Result<Option<(Rule, u32)>, Fault> {
+    let meta = many_streams(alloc, count, size)?;
     if meta.len() > 0x10_0000 {
-        return Ok(false);
+        return Ok(None);
     }
     let heaps = match Heaps::read(&meta, 0) {
         Ok(heaps) => heaps,
         Err(refusal) => return Err(Fault::Refused(refusal)),
     };
-    let builder = HeapBuilder::new(alloc, &heaps)?;
-    let tables = heaps.tables();
-    if tables.len() != 24 {
-        return Ok(false);
-    }
-    Ok(limit_of(write_metadata(alloc, &heaps, &builder, tables)) == Some((Rule::L6, 0x800_0001)))
+    Ok(limit_of(with_text(alloc, &heaps)))
 }
 
 #[test]
-fn metadata_that_no_image_holds_are_refused(rt: HostRuntime) -> Result<(), Fault> {
-    assert!(rt; overlapping_streams_are_refused(rt.alloc())?);
+fn limits_of_the_metadata(rt: HostRuntime) -> Result<(), Fault> {
+    // `#US` is one stream too many; streams over each other have 149 MiB when they are written
+    assert!(rt; limit_with(rt.alloc(), 65_535, 0)? == Some((Rule::L5, 65_536)));
+    assert!(rt; limit_with(rt.alloc(), 150, 0x10_0000)? == Some((Rule::L6, 0x800_0001)));
+    assert!(rt; limit_with(rt.alloc(), 150, 12)?.is_none());
     Ok(())
 }
