@@ -1,4 +1,3 @@
-pub mod OpcodeLaws
 mod MethodListLaws
 mod PrintLaws
 mod TextLaws

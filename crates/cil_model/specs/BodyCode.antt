@@ -1,5 +1,5 @@
 -- How an instruction with its prefixes stands in code (ECMA-335, III.1.2 and III.1.9). Here a target is an offset in the code.
-use Rattle.std.specs.Prelude.{ℕ, zero, suc, ◌+◌, ◌-◌, ◌*◌, ◌%◌, ◌^◌, ◌==◌, nat_lt, nat_le, if◌then◌else◌, List, [], ◌∷◌, ◌++◌, length, drop, slice_get, Option, Some, None, Result, Ok, Err}
+use Rattle.std.specs.Prelude.{◌≡◌, ℕ, zero, suc, ◌+◌, ◌-◌, ◌*◌, ◌%◌, ◌^◌, ◌==◌, nat_lt, nat_le, if◌then◌else◌, List, [], ◌∷◌, ◌++◌, length, drop, slice_get, Option, Some, None, Result, Ok, Err}
 use Rattle.std.specs.Int.{w8, w32, w64, cast_signed}
 use Rattle.std.specs.Int.RustNames.{bit_or}
 use Rattle.cil_base.specs.declared.token.Token.{Token}
@@ -10,11 +10,18 @@ use Rattle.cil_base.specs.Tokens.{token_of}
 use Rattle.cil_model.specs.declared.body.Operand.{Operand}
 use Rattle.cil_model.specs.declared.body.Operand.TheVariants.{Nothing, Int, Index, Target, Targets, Tok}
 use Rattle.cil_model.specs.declared.body.Instr.{Instr}
-use Rattle.cil_model.specs.declared.opcode.Opcode.{Opcode}
-use Rattle.cil_model.specs.declared.opcode.OperandKind.{OperandKind}
-use Rattle.cil_model.specs.declared.opcode.OperandKind.TheVariants as op
-use Rattle.cil_model.specs.Opcodes.{opcode_of}
-use Rattle.cil_model.specs.SmallCode.{Reading}
+use Rattle.il_opcodes.specs.declared.opcode.Opcode.{Opcode}
+use Rattle.il_opcodes.specs.declared.opcode.OperandKind.{OperandKind}
+use Rattle.il_opcodes.specs.declared.opcode.OperandKind.TheVariants as op
+use Rattle.il_opcodes.specs.Opcodes.{opcode_of}
+
+-- an instruction without prefixes
+abbrev pub instr : ℕ → Operand → Instr
+instr op operand = record { op = op; operand = operand; constrained = None; prefixes = 0; under = None }
+
+-- An instruction and how many bytes it takes, or the rule that is broken.
+abbrev pub Reading : Type 0
+Reading = Result (Instr × ℕ) Rule
 
 -- ---- codes
 
@@ -27,13 +34,13 @@ abbrev pub code_at : List ℕ → Option (ℕ × ℕ)
 code_at [] = None
 code_at (b ∷ rest) = if b == 0xFE then second_of (slice_get rest 0) else Some (b, 1)
 
-abbrev pub known : Option Opcode → ℕ → Result (Opcode × ℕ) Rule
-known None n = Err I1
-known (Some o) n = Ok (o, n)
+abbrev pub if_defined : Option Opcode → ℕ → Result (Opcode × ℕ) Rule
+if_defined None n = Err I1
+if_defined (Some o) n = Ok (o, n)
 
 abbrev pub opcode_for : Option (ℕ × ℕ) → Result (Opcode × ℕ) Rule
 opcode_for None = Err I2
-opcode_for (Some (code, n)) = known (opcode_of code) n
+opcode_for (Some (code, n)) = if_defined (opcode_of code) n
 
 -- the instruction whose code is at the front
 abbrev pub opcode_at : List ℕ → Result (Opcode × ℕ) Rule
@@ -42,8 +49,8 @@ opcode_at bytes = opcode_for (code_at bytes)
 -- ---- operands
 
 -- a displacement of one byte as one of four
-abbrev pub widened : ℕ → ℕ
-widened b = if nat_lt b 0x80 then b else b + (2 ^ 32 - 2 ^ 8)
+abbrev pub sign_extend : ℕ → ℕ
+sign_extend b = if nat_lt b 0x80 then b else b + (2 ^ 32 - 2 ^ 8)
 
 -- the offset so far behind the end of an instruction; offsets are numbers of four bytes
 abbrev pub landing : ℕ → ℕ → ℕ
@@ -74,7 +81,7 @@ operand_at a at op.Int32 bytes = with_number (λ v. Int (cast_signed w32 v)) 4 (
 operand_at a at op.Int64 bytes = with_number (λ v. Int (cast_signed w64 v)) 8 (num_at bytes 0 8)
 operand_at a at op.Index8 bytes = with_number Index 1 (slice_get bytes 0)
 operand_at a at op.Index16 bytes = with_number Index 2 (num_at bytes 0 2)
-operand_at a at op.Target8 bytes = with_number (λ v. Target (landing (at + 1) (widened v))) 1 (slice_get bytes 0)
+operand_at a at op.Target8 bytes = with_number (λ v. Target (landing (at + 1) (sign_extend v))) 1 (slice_get bytes 0)
 operand_at a at op.Target32 bytes = with_number (λ v. Target (landing (at + 4) v)) 4 (num_at bytes 0 4)
 operand_at a at op.Targets bytes = switch_of at bytes (num_at bytes 0 4)
 operand_at a at op.TypeToken bytes = token_at a bytes
@@ -118,3 +125,16 @@ prefixed a at bytes (suc k) constrained flags taken =
 -- the instruction at the front of the bytes, which begin at an offset in the code of the assembly a
 abbrev pub instr_at : ℕ → ℕ → List ℕ → Reading
 instr_at a at bytes = prefixed a at bytes (length bytes) None 0 0
+
+-- ---- code
+
+-- a reader of the instruction at the front of the bytes, which begin at an offset
+abbrev pub Reader : Type 0
+Reader = ℕ → List ℕ → Reading
+
+-- The bytes are these instructions in turn, which begin at these offsets, and then rest at the offset end.
+abbrev pub Reads : Reader → ℕ → List ℕ → List Instr → List ℕ → ℕ → List ℕ → Type 0
+Reads read at bytes [] [] end rest = (end ≡ at) × (rest ≡ bytes)
+Reads read at bytes [] (o ∷ os) end rest = ⊥
+Reads read at bytes (i ∷ is) [] end rest = ⊥
+Reads read at bytes (i ∷ is) (o ∷ os) end rest = (o ≡ at) × ((n : ℕ) × (read at bytes ≡ Ok (i, n)) × Reads read (at + n) (drop n bytes) is os end rest)

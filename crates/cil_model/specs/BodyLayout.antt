@@ -3,7 +3,7 @@ use Rattle.std.specs.Prelude.{ℕ, zero, suc, ◌+◌, ◌-◌, ◌*◌, ◌/◌
 use Rattle.std.specs.List.{list_all}
 use Rattle.cil_base.specs.declared.token.Token.{Token}
 use Rattle.cil_base.specs.Numbers.{num, num_at}
-use Rattle.cil_base.specs.Tokens.{token_of}
+use Rattle.cil_base.specs.Tokens.{token_of, token_number}
 use Rattle.cil_model.specs.declared.layout.Layout.{Layout}
 use Rattle.cil_model.specs.declared.layout.MethodHeader.{MethodHeader}
 use Rattle.cil_model.specs.declared.layout.Section.{Section}
@@ -24,6 +24,11 @@ are_fat_flags n = (n % 8 == 3) && (n / 32 == 0x180)
 
 abbrev pub locals_of : ℕ → Option Token
 locals_of v = if v == 0 then None else Some (token_of v)
+
+-- A token of 0 says that there are no locals.
+abbrev pub locals_number : Option Token → ℕ
+locals_number None = 0
+locals_number (Some token) = token_number token
 
 abbrev pub fat_header : ℕ → List ℕ → MethodHeader
 fat_header flags bytes =
@@ -113,14 +118,14 @@ with_clauses h (Some (cs, end)) = Some (record { header = h; clauses = cs; len =
 abbrev pub behind_code : List ℕ → MethodHeader → ℕ → Option (List RawClause × ℕ)
 behind_code bytes h end = if h.more then sections_at bytes (length bytes) end else Some ([], end)
 
-abbrev pub laid_out : List ℕ → Option MethodHeader → Option Layout
-laid_out bytes None = None
-laid_out bytes (Some h) =
+abbrev pub layout_with : List ℕ → Option MethodHeader → Option Layout
+layout_with bytes None = None
+layout_with bytes (Some h) =
     if nat_le (h.size + h.code_size) (length bytes) then with_clauses h (behind_code bytes h (h.size + h.code_size)) else None
 
 -- the layout of the body that the bytes begin with; none where one isn't whole or has other bits
 unfoldable pub layout_of : List ℕ → Option Layout
-layout_of bytes = laid_out bytes (header_of bytes)
+layout_of bytes = layout_with bytes (header_of bytes)
 
 abbrev pub code_of : List ℕ → MethodHeader → List ℕ
 code_of bytes h = take h.code_size (drop h.size bytes)

@@ -1,9 +1,9 @@
-pub mod SmallMeaning
-pub mod SmallCode
-pub mod Opcodes
 pub mod BodyCode
 pub mod BodyLayout
 pub mod BodyOf
+pub mod ValidBody
+pub mod SmallMeaning
+pub mod SmallBody
 pub mod NoContracts
 pub mod MethodLists
 pub mod Programs

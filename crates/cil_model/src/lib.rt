@@ -5,7 +5,6 @@ mod body;
 mod contract;
 mod layout;
 mod methods;
-mod opcode;
 mod print;
 mod program;
 mod run;
@@ -22,7 +21,6 @@ pub use contract::{
 };
 pub use layout::{Layout, MethodHeader, RawClause, RawClauses, Section};
 pub use methods::MethodDescs;
-pub use opcode::{Class, Opcode, OperandKind, find_opcode, opcodes};
 pub use print::{print_item, print_outcome, print_value};
 pub use program::{
     FieldDesc, FieldDescs, Impl, Impls, Kind, Meaning, MethodDesc, Program, Source, Sources,

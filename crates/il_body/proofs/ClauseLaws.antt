@@ -6,6 +6,7 @@ use Rattle.std.specs.Option.{option_map}
 use Rattle.std.specs.Int.{w32, to_le_bytes}
 use Rattle.std.proofs.lemmas.Bool.{leb-true, cases_lt}
 use Rattle.std.proofs.lemmas.Grind.{common_steps}
+use Rattle.cil_base.proofs.PieceLaws.{left_behind, room_behind}
 use Rattle.cil_base.specs.declared.token.Token.{Token}
 use Rattle.cil_model.specs.declared.body.Region.{Region}
 use Rattle.cil_model.specs.declared.body.RegionKind.{RegionKind}
@@ -13,49 +14,50 @@ use Rattle.cil_model.specs.declared.body.RegionKind.TheVariants.{Catch, Filter, 
 use Rattle.cil_model.specs.declared.layout.RawClause.{RawClause}
 use Rattle.cil_model.specs.declared.layout.Section.{Section}
 use Rattle.cil_model.specs.BodyLayout.{aligned, before, bit, clauses, clauses_of, fat_clause, if_sized, is_kind, section_at, section_of, sections_at}
-use Rattle.cil_model.specs.BodyOf.{kind_of, mapped, place_of, region_of}
+use Rattle.cil_model.specs.BodyOf.{kind_of, map_all, index_of, region_of}
 use Rattle.il_code.specs.Answers.{Rise}
 use Rattle.il_code.proofs.SectionLaws.{last, next}
-use Rattle.il_body.specs.BodyEncoding.{AllValidRegions, IsValidKind, IsValidRegion, clause_bytes, clause_limit, clause_of, flags_of, last_of, section_bytes, sections}
+use Rattle.cil_model.specs.ValidBody.{AllValidRegions, IsValidKind, IsValidRegion}
+use Rattle.il_body.specs.BodyEncoding.{clause_bytes, clause_limit, clause_of, flags_of, last_of, section_bytes, sections}
 use Rattle.il_body.proofs.CodeLaws.{AreFound, found_in}
-use Rattle.il_body.proofs.NumberLaws.{moved, num_at_back, num_back, room, token_back}
+use Rattle.il_body.proofs.NumberLaws.{num_at_back, num_back, token_back}
 use Rattle.il_body.proofs.OperandLaws.{AreSmall}
 
 -- ---- regions
 
-kind_back : (offsets places : List ℕ) (count : ℕ) (r : Region) (kind : RegionKind) → AreFound offsets places count → IsValidKind count kind → kind_of offsets (clause_of places (record r { kind = kind })) ≡ Some kind
-kind_back offsets places count r (Catch token) all valid = ap (λ (t : Token). Some (Catch t)) (token_back token valid.1)
-kind_back offsets places count r (Filter k) all valid = ap (option_map Filter) (all k valid)
-kind_back offsets places count r Finally all valid = refl
-kind_back offsets places count r Fault all valid = refl
+kind_back : (offsets all_offsets : List ℕ) (count : ℕ) (r : Region) (kind : RegionKind) → AreFound offsets all_offsets count → IsValidKind count kind → kind_of offsets (clause_of all_offsets (record r { kind = kind })) ≡ Some kind
+kind_back offsets all_offsets count r (Catch token) all valid = ap (λ (t : Token). Some (Catch t)) (token_back token valid.1)
+kind_back offsets all_offsets count r (Filter k) all valid = ap (option_map Filter) (all k valid)
+kind_back offsets all_offsets count r Finally all valid = refl
+kind_back offsets all_offsets count r Fault all valid = refl
 
-low : (places : List ℕ) (i j : ℕ) → Rise places → i ≤ j → j < length places → get_or places i 0 ≤ get_or places j 0
-low places i j rise le inside = ⊎_elim
+low : (all_offsets : List ℕ) (i j : ℕ) → Rise all_offsets → i ≤ j → j < length all_offsets → get_or all_offsets i 0 ≤ get_or all_offsets j 0
+low all_offsets i j rise le inside = ⊎_elim
     (λ lt. let r = rise i j lt inside in omega arith)
-    (λ ge. let e : i ≡ j = omega arith in let s : get_or places i 0 ≡ get_or places j 0 = ap (λ (k : ℕ). get_or places k 0) e in omega arith)
+    (λ ge. let e : i ≡ j = omega arith in let s : get_or all_offsets i 0 ≡ get_or all_offsets j 0 = ap (λ (k : ℕ). get_or all_offsets k 0) e in omega arith)
     (cases_lt i j)
 
-end_back : (places : List ℕ) (i j : ℕ) → Rise places → i ≤ j → j < length places → place_of places (get_or places i 0 + (get_or places j 0 - get_or places i 0)) ≡ Some j
-end_back places i j rise le inside =
-    let l = low places i j rise le inside in
-    let e : get_or places i 0 + (get_or places j 0 - get_or places i 0) ≡ get_or places j 0 = omega arith in
-    ap (place_of places) e ∙ found_in places j rise inside
+end_back : (all_offsets : List ℕ) (i j : ℕ) → Rise all_offsets → i ≤ j → j < length all_offsets → index_of all_offsets (get_or all_offsets i 0 + (get_or all_offsets j 0 - get_or all_offsets i 0)) ≡ Some j
+end_back all_offsets i j rise le inside =
+    let l = low all_offsets i j rise le inside in
+    let e : get_or all_offsets i 0 + (get_or all_offsets j 0 - get_or all_offsets i 0) ≡ get_or all_offsets j 0 = omega arith in
+    ap (index_of all_offsets) e ∙ found_in all_offsets j rise inside
 
 region_back : (offsets : List ℕ) (size : ℕ) (r : Region) → AreFound offsets (offsets ++ size ∷ []) (length offsets) → Rise (offsets ++ size ∷ []) → IsValidRegion (length offsets) r → region_of offsets size (clause_of (offsets ++ size ∷ []) r) ≡ Some r
 region_back offsets size r all rise valid =
-    let places = offsets ++ size ∷ [] in
+    let all_offsets = offsets ++ size ∷ [] in
     let n = length-append offsets (size ∷ []) in
     let tried_end = valid.tried_end in
     let handler_end = valid.handler_end in
     rw (
-      kind_back offsets places (length offsets) r r.kind all valid.kind,
+      kind_back offsets all_offsets (length offsets) r r.kind all valid.kind,
       all r.try_from valid.tried,
-      end_back places r.try_from r.try_to rise valid.tried_order (omega arith),
+      end_back all_offsets r.try_from r.try_to rise valid.tried_order (omega arith),
       all r.handler_from valid.handler,
-      end_back places r.handler_from r.handler_to rise valid.handler_order (omega arith),
+      end_back all_offsets r.handler_from r.handler_to rise valid.handler_order (omega arith),
     ) refl
 
-pub regions_back : (offsets : List ℕ) (size : ℕ) (rs : List Region) → AreFound offsets (offsets ++ size ∷ []) (length offsets) → Rise (offsets ++ size ∷ []) → AllValidRegions (length offsets) rs → mapped (region_of offsets size) (map (clause_of (offsets ++ size ∷ [])) rs) ≡ Some rs
+pub regions_back : (offsets : List ℕ) (size : ℕ) (rs : List Region) → AreFound offsets (offsets ++ size ∷ []) (length offsets) → Rise (offsets ++ size ∷ []) → AllValidRegions (length offsets) rs → map_all (region_of offsets size) (map (clause_of (offsets ++ size ∷ [])) rs) ≡ Some rs
 regions_back offsets size [] all rise valid = refl
 regions_back offsets size (r ∷ rs) all rise valid =
     rw (region_back offsets size r all rise valid.0, regions_back offsets size rs all rise valid.1) refl
@@ -90,11 +92,11 @@ all_kinds : (cs : List RawClause) → AllWritable cs → list_all is_kind cs ≡
 all_kinds [] w = refl
 all_kinds (c ∷ cs) w = rw (w.0.kind, all_kinds cs w.1) refl
 
-small_last : (count : ℕ) (places : List ℕ) (kind : RegionKind) → AreSmall places → IsValidKind count kind → last_of places kind < 2 ^ 32
-small_last count places (Catch token) small valid = let t = valid.0 in let r = valid.1 in omega arith
-small_last count places (Filter k) small valid = small k
-small_last count places Finally small valid = omega arith
-small_last count places Fault small valid = omega arith
+small_last : (count : ℕ) (all_offsets : List ℕ) (kind : RegionKind) → AreSmall all_offsets → IsValidKind count kind → last_of all_offsets kind < 2 ^ 32
+small_last count all_offsets (Catch token) small valid = let t = valid.0 in let r = valid.1 in omega arith
+small_last count all_offsets (Filter k) small valid = small k
+small_last count all_offsets Finally small valid = omega arith
+small_last count all_offsets Fault small valid = omega arith
 
 small_flags : (kind : RegionKind) → flags_of kind < 2 ^ 32
 small_flags (Catch token) = omega arith
@@ -102,15 +104,15 @@ small_flags (Filter k) = omega arith
 small_flags Finally = omega arith
 small_flags Fault = omega arith
 
-known : (places : List ℕ) (r : Region) (kind : RegionKind) → is_kind (clause_of places (record r { kind = kind })) ≡ true
-known places r (Catch token) = refl
-known places r (Filter k) = refl
-known places r Finally = refl
-known places r Fault = refl
+known : (all_offsets : List ℕ) (r : Region) (kind : RegionKind) → is_kind (clause_of all_offsets (record r { kind = kind })) ≡ true
+known all_offsets r (Catch token) = refl
+known all_offsets r (Filter k) = refl
+known all_offsets r Finally = refl
+known all_offsets r Fault = refl
 
-pub clauses_writable : (count : ℕ) (places : List ℕ) (rs : List Region) → AreSmall places → AllValidRegions count rs → AllWritable (map (clause_of places) rs)
-clauses_writable count places [] small valid = tt
-clauses_writable count places (r ∷ rs) small valid =
+pub clauses_writable : (count : ℕ) (all_offsets : List ℕ) (rs : List Region) → AreSmall all_offsets → AllValidRegions count rs → AllWritable (map (clause_of all_offsets) rs)
+clauses_writable count all_offsets [] small valid = tt
+clauses_writable count all_offsets (r ∷ rs) small valid =
     let a = small r.try_from in
     let b = small r.try_to in
     let c = small r.handler_from in
@@ -121,10 +123,10 @@ clauses_writable count places (r ∷ rs) small valid =
         try_size = omega arith;
         handler_from = c;
         handler_size = omega arith;
-        last = small_last count places r.kind small valid.0.kind;
-        kind = known places r r.kind;
+        last = small_last count all_offsets r.kind small valid.0.kind;
+        kind = known all_offsets r r.kind;
       },
-      clauses_writable count places rs small valid.1,
+      clauses_writable count all_offsets rs small valid.1,
     )
 
 clause_back : (bytes : List ℕ) (at : ℕ) (c : RawClause) (rest : List ℕ) → IsWritable c → drop at bytes ≡ clause_bytes c ++ rest → fat_clause bytes at ≡ c
@@ -136,15 +138,15 @@ clause_back bytes at c rest w e =
     let x4 = to_le_bytes w32 c.handler_size in
     let x5 = to_le_bytes w32 c.last in
     let e0 : drop at bytes ≡ x0 ++ (x1 ++ (x2 ++ (x3 ++ (x4 ++ (x5 ++ rest))))) = e in
-    let e1 = moved bytes at x0 (x1 ++ (x2 ++ (x3 ++ (x4 ++ (x5 ++ rest))))) e0 in
+    let e1 = left_behind bytes at x0 (x1 ++ (x2 ++ (x3 ++ (x4 ++ (x5 ++ rest))))) e0 in
     let m2 : at + 4 + 4 ≡ at + 8 = omega arith in
-    let e2 = subst (λ (n : ℕ). drop n bytes ≡ x2 ++ (x3 ++ (x4 ++ (x5 ++ rest)))) m2 (moved bytes (at + 4) x1 (x2 ++ (x3 ++ (x4 ++ (x5 ++ rest)))) e1) in
+    let e2 = subst (λ (n : ℕ). drop n bytes ≡ x2 ++ (x3 ++ (x4 ++ (x5 ++ rest)))) m2 (left_behind bytes (at + 4) x1 (x2 ++ (x3 ++ (x4 ++ (x5 ++ rest)))) e1) in
     let m3 : at + 8 + 4 ≡ at + 12 = omega arith in
-    let e3 = subst (λ (n : ℕ). drop n bytes ≡ x3 ++ (x4 ++ (x5 ++ rest))) m3 (moved bytes (at + 8) x2 (x3 ++ (x4 ++ (x5 ++ rest))) e2) in
+    let e3 = subst (λ (n : ℕ). drop n bytes ≡ x3 ++ (x4 ++ (x5 ++ rest))) m3 (left_behind bytes (at + 8) x2 (x3 ++ (x4 ++ (x5 ++ rest))) e2) in
     let m4 : at + 12 + 4 ≡ at + 16 = omega arith in
-    let e4 = subst (λ (n : ℕ). drop n bytes ≡ x4 ++ (x5 ++ rest)) m4 (moved bytes (at + 12) x3 (x4 ++ (x5 ++ rest)) e3) in
+    let e4 = subst (λ (n : ℕ). drop n bytes ≡ x4 ++ (x5 ++ rest)) m4 (left_behind bytes (at + 12) x3 (x4 ++ (x5 ++ rest)) e3) in
     let m5 : at + 16 + 4 ≡ at + 20 = omega arith in
-    let e5 = subst (λ (n : ℕ). drop n bytes ≡ x5 ++ rest) m5 (moved bytes (at + 16) x4 (x5 ++ rest) e4) in
+    let e5 = subst (λ (n : ℕ). drop n bytes ≡ x5 ++ rest) m5 (left_behind bytes (at + 16) x4 (x5 ++ rest) e4) in
     rw (
       num_back 4 bytes at c.flags _ e0 w.flags,
       num_back 4 bytes (at + 4) c.try_from _ e1 w.try_from,
@@ -161,7 +163,7 @@ clauses_back bytes from n (c ∷ cs) rest w e =
     let tail = flat_map clause_bytes cs ++ rest in
     let h : drop (from + 24 * n) bytes ≡ clause_bytes c ++ tail = e ∙ append_assoc (clause_bytes c) (flat_map clause_bytes cs) rest in
     let next : from + 24 * n + 24 ≡ from + 24 * suc n = omega arith in
-    let more = clauses_back bytes from (suc n) cs rest w.1 (subst (λ (m : ℕ). drop m bytes ≡ tail) next (moved bytes (from + 24 * n) (clause_bytes c) tail h)) in
+    let more = clauses_back bytes from (suc n) cs rest w.1 (subst (λ (m : ℕ). drop m bytes ≡ tail) next (left_behind bytes (from + 24 * n) (clause_bytes c) tail h)) in
     let count : n + length (c ∷ cs) ≡ suc n + length cs = omega arith in
     ap (clauses true bytes from) count ∙ more ∙ rw (clause_back bytes (from + 24 * n) c tail w.0 h) (append_assoc (clauses true bytes from n) (c ∷ []) cs)
 
@@ -213,7 +215,7 @@ section_back bytes at more cs rest few e =
     let small : v < 2 ^ 32 = below more in
     let n = num_at_back bytes at v tail h small in
     let p = parts more size in
-    let whole = room bytes at (section_bytes more cs) rest e (omega (arith, length_section more cs)) in
+    let whole = room_behind bytes at (section_bytes more cs) rest e (omega (arith, length_section more cs)) in
     ap (λ (o : Option ℕ). section_of o at (length bytes)) n ∙ rw (p.0, p.1, p.2) (sized more at (length cs) (length bytes) (omega (arith, length_section more cs)))
   where
     below : (more : Bool) → kind_byte more + 0x100 * (4 + 24 * length cs) < 2 ^ 32
@@ -226,7 +228,7 @@ section_clauses bytes at more cs rest w e =
     let tail = flat_map clause_bytes cs ++ rest in
     let h : drop at bytes ≡ to_le_bytes w32 v ++ tail = e ∙ append_assoc (to_le_bytes w32 v) (flat_map clause_bytes cs) rest in
     let z : at + 4 ≡ at + 4 + 24 * 0 = omega arith in
-    let f = subst (λ (m : ℕ). drop m bytes ≡ tail) z (moved bytes at (to_le_bytes w32 v) tail h) in
+    let f = subst (λ (m : ℕ). drop m bytes ≡ tail) z (left_behind bytes at (to_le_bytes w32 v) tail h) in
     let n : 0 + length cs ≡ length cs = omega arith in
     ap (clauses true bytes (at + 4)) (sym n) ∙ clauses_back bytes (at + 4) 0 cs rest w f
 
@@ -261,7 +263,7 @@ first_back bytes k at n cs rest false t enough few w e more =
     let end = aligned at + (4 + 24 * length front) in
     let same : aligned end ≡ end = omega arith in
     let there : aligned at + length (section_bytes true front) ≡ aligned end = omega (arith, length_section true front) in
-    let f = subst (λ (m : ℕ). drop m bytes ≡ tail) there (moved bytes (aligned at) (section_bytes true front) tail h) in
+    let f = subst (λ (m : ℕ). drop m bytes ≡ tail) there (left_behind bytes (aligned at) (section_bytes true front) tail h) in
     let others = more end (omega arith) (omega (arith, length-drop clause_limit cs, limit_some)) f in
     let total : aligned end + length (sections n behind) ≡ aligned at + length (section_bytes true front ++ sections n behind) = omega (arith, length-append (section_bytes true front) (sections n behind), length_section true front) in
     first ∙ ap (before front) others ∙ (λ i. Some (take-append-drop clause_limit cs i, total i))

@@ -9,12 +9,12 @@ use Rattle.std.proofs.lemmas.List.{get_or-drop}
 use Rattle.byteorder.specs.Endian.{little_from}
 use Rattle.cil_base.specs.Numbers.{num, num_at}
 use Rattle.cil_base.specs.Tokens.{token_of}
-use Rattle.cil_model.specs.declared.opcode.Opcode.{Opcode}
-use Rattle.cil_model.specs.declared.opcode.OperandKind.{OperandKind}
-use Rattle.cil_model.specs.declared.opcode.OperandKind.TheVariants as op
-use Rattle.cil_model.specs.Opcodes.{opcode_of, the_opcodes}
-use Rattle.cil_model.specs.BodyCode.{code_at, known, opcode_at, opcode_for, second_of}
-use Rattle.il_body.specs.BodyEncoding.{AreBytes, IsSmallToken, is_within, takes_nothing, takes_target, takes_targets, takes_token}
+use Rattle.il_opcodes.specs.declared.opcode.Opcode.{Opcode}
+use Rattle.il_opcodes.specs.declared.opcode.OperandKind.{OperandKind}
+use Rattle.il_opcodes.specs.declared.opcode.OperandKind.TheVariants as op
+use Rattle.il_opcodes.specs.Opcodes.{opcode_of, the_opcodes}
+use Rattle.cil_model.specs.BodyCode.{code_at, if_defined, opcode_at, opcode_for, second_of}
+use Rattle.cil_model.specs.ValidBody.{AreBytes, IsSmallToken, is_within, takes_nothing, takes_target, takes_targets, takes_token}
 use Rattle.il_body.proofs.SpellingLaws.{passing}
 
 -- ---- the table
@@ -73,7 +73,7 @@ pub is_row : (code : ℕ) (o : Opcode) → opcode_of code ≡ Some o → IsRow o
 unfolding opcode_of
 is_row code o h = record { long = (passing (λ (q : Opcode). q.code == code) has_long the_opcodes o all_long h).1 }
 
-is_known : (r : Option Opcode) (o : Opcode) (n m : ℕ) → known r n ≡ Ok (o, m) → (r ≡ Some o) × (n ≡ m)
+is_known : (r : Option Opcode) (o : Opcode) (n m : ℕ) → if_defined r n ≡ Ok (o, m) → (r ≡ Some o) × (n ≡ m)
 is_known None o n m h = absurd cc
 is_known (Some x) o n m h = let e : (x, n) ≡ (o, m) = cc in (ap (λ (p : Opcode × ℕ). Some p.0) e, ap (λ (p : Opcode × ℕ). p.1) e)
 

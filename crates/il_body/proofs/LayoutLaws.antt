@@ -5,16 +5,17 @@ use Rattle.std.specs.Int.{w16, w32, to_le_bytes}
 use Rattle.std.proofs.Math.Seq.{drop-append_seam, take-append_seam}
 use Rattle.std.proofs.lemmas.Grind.{common_steps}
 use Rattle.std.proofs.lemmas.List.{length-replicate}
+use Rattle.cil_base.proofs.PieceLaws.{left_behind}
 use Rattle.cil_base.specs.Numbers.{num}
 use Rattle.cil_base.specs.Tokens.{token_of}
 use Rattle.cil_model.specs.declared.layout.MethodHeader.{MethodHeader}
 use Rattle.cil_model.specs.declared.layout.RawClause.{RawClause}
 use Rattle.cil_model.specs.BodyLayout as layout
 use Rattle.cil_model.specs.BodyLayout.{aligned, header_of, layout_of, locals_of, sections_at}
-use Rattle.cil_model.specs.SmallCode.{locals_number}
+use Rattle.cil_model.specs.BodyLayout.{locals_number}
 use Rattle.il_body.specs.BodyEncoding.{behind_code, sections}
 use Rattle.il_body.proofs.ClauseLaws.{AllWritable, sections_back}
-use Rattle.il_body.proofs.NumberLaws.{moved, num_back}
+use Rattle.il_body.proofs.NumberLaws.{num_back}
 
 -- ---- headers
 
@@ -76,12 +77,12 @@ pub laid_plain : (head code : List ℕ) (h : MethodHeader) → header_of (head +
 unfolding layout_of
 laid_plain head code h e size code_size more =
     let n : length head + length code ≡ length (head ++ (code ++ [])) = omega (arith, length-append head (code ++ []), ap (λ (l : List ℕ). length l) (append-nil code)) in
-    ap (layout.laid_out (head ++ (code ++ []))) e ∙ rw (size, code_size, laid_end head code [], more) (ap (λ (n : ℕ). Some (record { header = record { size = length head; code_size = length code; max_stack = h.max_stack; init = h.init; locals = h.locals; more = false }; clauses = []; len = n })) n)
+    ap (layout.layout_with (head ++ (code ++ []))) e ∙ rw (size, code_size, laid_end head code [], more) (ap (λ (n : ℕ). Some (record { header = record { size = length head; code_size = length code; max_stack = h.max_stack; init = h.init; locals = h.locals; more = false }; clauses = []; len = n })) n)
 
 pub laid_more : (head code tail : List ℕ) (h : MethodHeader) (cs : List RawClause) → header_of (head ++ (code ++ tail)) ≡ Some h → h.size ≡ length head → h.code_size ≡ length code → h.more ≡ true → sections_at (head ++ (code ++ tail)) (length (head ++ (code ++ tail))) (length head + length code) ≡ Some (cs, length (head ++ (code ++ tail))) → layout_of (head ++ (code ++ tail)) ≡ Some (record { header = h; clauses = cs; len = length (head ++ (code ++ tail)) })
 unfolding layout_of
 laid_more head code tail h cs e size code_size more all =
-    ap (layout.laid_out (head ++ (code ++ tail))) e ∙ rw (size, code_size, laid_end head code tail, more, all) refl
+    ap (layout.layout_with (head ++ (code ++ tail))) e ∙ rw (size, code_size, laid_end head code tail, more, all) refl
 
 pub tail_back : (head code : List ℕ) (c : RawClause) (cs : List RawClause) → length head ≡ 12 → AllWritable (c ∷ cs) → let bytes = head ++ (code ++ behind_code (12 + length code) (c ∷ cs)) in sections_at bytes (length bytes) (length head + length code) ≡ Some (c ∷ cs, length bytes)
 tail_back head code c cs twelve w =
@@ -91,8 +92,8 @@ tail_back head code c cs twelve w =
     let bytes = head ++ (code ++ (zeros ++ secs)) in
     let n : length zeros ≡ aligned end - end = length-replicate {A = ℕ} (aligned end - end) 0 in
     let h0 : drop (length head) bytes ≡ code ++ (zeros ++ secs) = drop-append_seam head (code ++ (zeros ++ secs)) in
-    let h1 : drop (length head + length code) bytes ≡ zeros ++ secs = moved bytes (length head) code (zeros ++ secs) h0 in
-    let h2 : drop (length head + length code + length zeros) bytes ≡ secs = moved bytes (length head + length code) zeros secs h1 in
+    let h1 : drop (length head + length code) bytes ≡ zeros ++ secs = left_behind bytes (length head) code (zeros ++ secs) h0 in
+    let h2 : drop (length head + length code + length zeros) bytes ≡ secs = left_behind bytes (length head + length code) zeros secs h1 in
     let there : length head + length code + length zeros ≡ aligned (length head + length code) = rw twelve (omega (arith, n)) in
     let h3 : drop (aligned (length head + length code)) bytes ≡ secs ++ [] = subst (λ (m : ℕ). drop m bytes ≡ secs) there h2 ∙ sym (append-nil secs) in
     let total : aligned (length head + length code) + length secs ≡ length bytes = omega (arith, there, length-append head (code ++ (zeros ++ secs)), length-append code (zeros ++ secs), length-append zeros secs) in

@@ -1,5 +1,3 @@
-pub mod Encoding
-pub mod Written
 pub mod NumberLaws
 pub mod SpellingLaws
 pub mod OperandLaws
@@ -13,3 +11,4 @@ pub mod KindLaws
 pub mod ReadLaws
 pub mod ValidLaws
 pub mod RegionLaws
+pub mod SpliceLaws

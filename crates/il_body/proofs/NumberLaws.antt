@@ -11,26 +11,21 @@ use Rattle.byteorder.specs.Endian.{little_number}
 use Rattle.byteorder.specs.Numbers.{little_from-bytes}
 use Rattle.cil_base.specs.declared.token.Token.{Token}
 use Rattle.cil_base.specs.Numbers.{num, num_at}
+use Rattle.cil_base.specs.Bytes.{number_bytes}
+use Rattle.cil_base.proofs.PieceLaws.{room_behind}
+use Rattle.cil_base.proofs.PieceLaws.{num_back as number_back}
+use Rattle.cil_base.proofs.Small.{less}
 use Rattle.cil_base.specs.Tokens.{token_of, token_number}
-use Rattle.cil_model.specs.SmallCode.{displacement}
-use Rattle.il_body.specs.BodyEncoding.{is_within}
+use Rattle.il_body.specs.BodyEncoding.{displacement}
+use Rattle.cil_model.specs.ValidBody.{is_within}
 
 pub num_back : (n : ℕ) (bytes : List ℕ) (at v : ℕ) (rest : List ℕ) → drop at bytes ≡ bytes_low_first 0 n v ++ rest → v < 256 ^ n → num bytes at n ≡ v
-unfolding num
-num_back n bytes at v rest e small =
-    ap (little_number n) e ∙ little_from-bytes n 0 v rest ∙ ap (λ (x : ℕ). x % 256 ^ n) (div-one v) ∙ mod-eq_of_lt small
-
-pub moved : (bytes : List ℕ) (at : ℕ) (s rest : List ℕ) → drop at bytes ≡ s ++ rest → drop (at + length s) bytes ≡ rest
-moved bytes at s rest e = sym (drop-drop (length s) at bytes) ∙ ap (drop (length s)) e ∙ drop-append_seam s rest
-
-pub room : (bytes : List ℕ) (at : ℕ) (s rest : List ℕ) → drop at bytes ≡ s ++ rest → 0 < length s → at + length s + length rest ≡ length bytes
-room bytes at s rest e some =
-    let n : length (drop at bytes) ≡ length (s ++ rest) = ap (λ (l : List ℕ). length l) e in
-    omega (arith, n, length-drop at bytes, length-append s rest)
+unfolding number_bytes
+num_back n bytes at v rest e small = number_back n bytes at v rest e small
 
 pub num_at_back : (bytes : List ℕ) (at v : ℕ) (rest : List ℕ) → drop at bytes ≡ to_le_bytes w32 v ++ rest → v < 2 ^ 32 → num_at bytes at 4 ≡ Some v
 num_at_back bytes at v rest e small =
-    let n = room bytes at (to_le_bytes w32 v) rest e (omega arith) in
+    let n = room_behind bytes at (to_le_bytes w32 v) rest e (omega arith) in
     let inside : nat_le (at + 4) (length bytes) ≡ true = grind (arith, common_steps) in
     rw inside (ap Some (num_back 4 bytes at v rest e small))
 
@@ -58,25 +53,22 @@ small_displacement p e = omega arith
 
 -- ---- signed numbers
 
-lt : (m n : ℕ) → nat_lt m n ≡ true → m < n
-lt m n h = grind (arith, common_steps)
-
 pub back_8 : (z : ℤ) → is_within 0x80 z ≡ true → cast_signed w8 (cast_unsigned w8 z) ≡ z
-back_8 (pos n) h = let s = lt n 0x80 h in to_z-of_z w8 (pos n) (record { sfits = omega arith })
-back_8 (negsuc n) h = let s = lt n 0x80 h in to_z-of_z w8 (negsuc n) (record { sfits = omega arith })
+back_8 (pos n) h = let s = less n 0x80 h in to_z-of_z w8 (pos n) (record { sfits = omega arith })
+back_8 (negsuc n) h = let s = less n 0x80 h in to_z-of_z w8 (negsuc n) (record { sfits = omega arith })
 
 pub back_32 : (z : ℤ) → is_within (2 ^ 31) z ≡ true → cast_signed w32 (cast_unsigned w32 z) ≡ z
-back_32 (pos n) h = let s = lt n (2 ^ 31) h in to_z-of_z w32 (pos n) (record { sfits = omega arith })
-back_32 (negsuc n) h = let s = lt n (2 ^ 31) h in to_z-of_z w32 (negsuc n) (record { sfits = omega arith })
+back_32 (pos n) h = let s = less n (2 ^ 31) h in to_z-of_z w32 (pos n) (record { sfits = omega arith })
+back_32 (negsuc n) h = let s = less n (2 ^ 31) h in to_z-of_z w32 (negsuc n) (record { sfits = omega arith })
 
 pub back_64 : (z : ℤ) → is_within (2 ^ 63) z ≡ true → cast_signed w64 (cast_unsigned w64 z) ≡ z
-back_64 (pos n) h = let s = lt n (2 ^ 63) h in to_z-of_z w64 (pos n) (record { sfits = omega arith })
-back_64 (negsuc n) h = let s = lt n (2 ^ 63) h in to_z-of_z w64 (negsuc n) (record { sfits = omega arith })
+back_64 (pos n) h = let s = less n (2 ^ 63) h in to_z-of_z w64 (pos n) (record { sfits = omega arith })
+back_64 (negsuc n) h = let s = less n (2 ^ 63) h in to_z-of_z w64 (negsuc n) (record { sfits = omega arith })
 
 pub small_32 : (z : ℤ) → is_within (2 ^ 31) z ≡ true → cast_unsigned w32 z < 2 ^ 32
-small_32 (pos n) h = let s = lt n (2 ^ 31) h in grind arith
-small_32 (negsuc n) h = let s = lt n (2 ^ 31) h in grind arith
+small_32 (pos n) h = let s = less n (2 ^ 31) h in grind arith
+small_32 (negsuc n) h = let s = less n (2 ^ 31) h in grind arith
 
 pub small_64 : (z : ℤ) → is_within (2 ^ 63) z ≡ true → cast_unsigned w64 z < 2 ^ 64
-small_64 (pos n) h = let s = lt n (2 ^ 63) h in grind arith
-small_64 (negsuc n) h = let s = lt n (2 ^ 63) h in grind arith
+small_64 (pos n) h = let s = less n (2 ^ 63) h in grind arith
+small_64 (negsuc n) h = let s = less n (2 ^ 63) h in grind arith

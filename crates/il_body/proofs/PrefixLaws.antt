@@ -1,22 +1,24 @@
--- An instruction that is written with its prefixes reads back, with offsets for places.
+-- An instruction that is written with its prefixes reads back, with offsets for all_offsets.
 use Rattle.std.proofs.Common.{◌≡◌, ℕ, zero, suc, ◌+◌, ◌-◌, ◌*◌, ◌^◌, ◌<◌, ◌≤◌, Bool, true, false, List, [], ◌∷◌, ◌++◌, length, drop, Option, Some, None, Ok, refl, sym, ap, ◌∙◌, subst, arith, append_assoc, length-append}
 use Rattle.std.specs.Prelude.{is_some, nat_lt, IfSome, if◌then◌else◌}
 use Rattle.std.specs.Int.{w32, to_le_bytes}
 use Rattle.std.specs.Int.RustNames.{bit_or}
+use Rattle.cil_base.proofs.Small.{decide}
+use Rattle.cil_base.proofs.PieceLaws.{left_behind, room_behind}
 use Rattle.cil_base.specs.declared.token.Token.{Token}
 use Rattle.cil_base.specs.Numbers.{num_at}
 use Rattle.cil_base.specs.Tokens.{token_of, token_number}
 use Rattle.cil_model.specs.declared.body.Instr.{Instr}
-use Rattle.cil_model.specs.declared.opcode.Opcode.{Opcode}
-use Rattle.cil_model.specs.declared.opcode.OperandKind.TheVariants as op
-use Rattle.cil_model.specs.declared.opcode.Class.TheVariants as class
-use Rattle.cil_model.specs.Opcodes.{opcode_of, the_opcodes, row}
+use Rattle.il_opcodes.specs.declared.opcode.Opcode.{Opcode}
+use Rattle.il_opcodes.specs.declared.opcode.OperandKind.TheVariants as op
+use Rattle.il_opcodes.specs.declared.class.Class.TheVariants as class
+use Rattle.il_opcodes.specs.Opcodes.{opcode_of, the_opcodes, row}
 use Rattle.cil_model.specs.BodyCode.{instr_at, opcode_at, operand_at, prefixed, with_operand}
 use Rattle.cil_model.specs.BodyLayout.{bit}
 use Rattle.il_code.proofs.InstrLaws.{flagged, other, typed}
-use Rattle.il_body.specs.BodyEncoding.{IsSmallToken, IsValidInstr, cases_in, code_bytes, constrained_bytes, flag_bytes, front_bytes, instr_bytes, operand_bytes, prefix_bytes, spelled, spelling_of}
-use Rattle.il_body.proofs.Encoding.{decide}
-use Rattle.il_body.proofs.NumberLaws.{moved, num_at_back, room, token_back}
+use Rattle.cil_model.specs.ValidBody.{IsSmallToken, IsValidInstr, spelling_of}
+use Rattle.il_body.specs.BodyEncoding.{cases_in, code_bytes, constrained_bytes, flag_bytes, front_bytes, instr_bytes, operand_bytes, prefix_bytes, spelled}
+use Rattle.il_body.proofs.NumberLaws.{num_at_back, token_back}
 use Rattle.il_body.proofs.OperandLaws.{AreSmall, operand_back, read_operand}
 use Rattle.il_body.proofs.SpellingLaws.{code_back, is_spelling, no_flag, no_type}
 
@@ -52,13 +54,13 @@ known second rest o e = rw e refl
 flag_step : (a at : ℕ) (bytes : List ℕ) (c : Option Token) (f taken second value : ℕ) (rest : List ℕ) (o : Opcode) → opcode_of (0xFE00 + second) ≡ Some o → o.operand ≡ op.Flag value → IsReached a at bytes c f taken (0xFE ∷ second ∷ rest) → IsReached a at bytes c (bit_or f value) (taken + 2) rest
 flag_step a at bytes c f taken second value rest o found is r =
     let h : opcode_at (drop taken bytes) ≡ Ok (o, 2) = ap opcode_at r.remains ∙ known second rest o found in
-    let n = room bytes taken (0xFE ∷ second ∷ []) rest r.remains (omega arith) in
+    let n = room_behind bytes taken (0xFE ∷ second ∷ []) rest r.remains (omega arith) in
     let e = r.enough in
     record {
       left = r.left - 1;
       enough = omega arith;
       reads = flagged a at bytes r.left c f taken o 2 value r.enough r.reads h is;
-      remains = moved bytes taken (0xFE ∷ second ∷ []) rest r.remains;
+      remains = left_behind bytes taken (0xFE ∷ second ∷ []) rest r.remains;
     }
 
 maybe_flag : (a at : ℕ) (bytes : List ℕ) (c : Option Token) (f taken second value : ℕ) (rest : List ℕ) (o : Opcode) (b : Bool) → opcode_of (0xFE00 + second) ≡ Some o → o.operand ≡ op.Flag value → IsReached a at bytes c f taken ((if b then 0xFE ∷ second ∷ [] else []) ++ rest) → IsReached a at bytes c (if b then bit_or f value else f) (taken + length (if b then 0xFE ∷ second ∷ [] else [])) rest
@@ -74,7 +76,7 @@ maybe_type a at bytes (Some token) rest s r =
     let below = s.0 in
     let within = s.1 in
     let h : opcode_at (drop 0 bytes) ≡ Ok (row 0xFE16 0xFE16 op.Constrained (Some 0) (Some 0) class.Prefix, 2) = ap opcode_at r.remains ∙ known 0x16 (number ++ rest) (row 0xFE16 0xFE16 op.Constrained (Some 0) (Some 0) class.Prefix) constrained in
-    let behind : drop 2 bytes ≡ number ++ rest = moved bytes 0 (0xFE ∷ 0x16 ∷ []) (number ++ rest) r.remains in
+    let behind : drop 2 bytes ≡ number ++ rest = left_behind bytes 0 (0xFE ∷ 0x16 ∷ []) (number ++ rest) r.remains in
     let some : num_at (drop 2 bytes) 0 4 ≡ Some v = num_at_back (drop 2 bytes) 0 v rest behind (omega arith) in
     let all : prefixed a at bytes (r.left - 1) (Some (token_of v)) 0 6 ≡ instr_at a at bytes = typed a at bytes r.left None 0 0 (row 0xFE16 0xFE16 op.Constrained (Some 0) (Some 0) class.Prefix) 2 v r.enough r.reads h refl some in
     let e = r.enough in
@@ -82,7 +84,7 @@ maybe_type a at bytes (Some token) rest s r =
       left = r.left - 1;
       enough = omega arith;
       reads = subst (λ (t : Token). prefixed a at bytes (r.left - 1) (Some t) 0 6 ≡ instr_at a at bytes) (token_back token within) all;
-      remains = moved bytes 2 number rest behind;
+      remains = left_behind bytes 2 number rest behind;
     }
 
 -- the flags, one bit after another
@@ -145,30 +147,30 @@ small_front i o =
 
 -- the instruction as it is read: targets are offsets
 abbrev pub read_instr : List ℕ → Instr → Instr
-read_instr places i = record { op = i.op; operand = read_operand places i.operand; constrained = i.constrained; prefixes = i.prefixes; under = None }
+read_instr all_offsets i = record { op = i.op; operand = read_operand all_offsets i.operand; constrained = i.constrained; prefixes = i.prefixes; under = None }
 
-spelled_back : (a at count : ℕ) (places : List ℕ) (i : Instr) (rest : List ℕ) (o : Option Opcode) → spelling_of i.op i.operand ≡ o → is_some o ≡ true → IsValidInstr a count i → AreSmall places → at + 24 * (1 + cases_in i.operand) ≤ 2 ^ 32 → instr_at a at (spelled places at i o ++ rest) ≡ Ok (read_instr places i, length (spelled places at i o))
-spelled_back a at count places i rest None e some valid small inside = cc
-spelled_back a at count places i rest (Some o) e some valid small inside =
+spelled_back : (a at count : ℕ) (all_offsets : List ℕ) (i : Instr) (rest : List ℕ) (o : Option Opcode) → spelling_of i.op i.operand ≡ o → is_some o ≡ true → IsValidInstr a count i → AreSmall all_offsets → at + 24 * (1 + cases_in i.operand) ≤ 2 ^ 32 → instr_at a at (spelled all_offsets at i o ++ rest) ≡ Ok (read_instr all_offsets i, length (spelled all_offsets at i o))
+spelled_back a at count all_offsets i rest None e some valid small inside = cc
+spelled_back a at count all_offsets i rest (Some o) e some valid small inside =
     let s = is_spelling i.op i.operand o e in
     let p = prefix_bytes i.constrained i.prefixes in
     let c = code_bytes o.code in
-    let b = operand_bytes places (at + length (p ++ c)) o.operand i.operand in
+    let b = operand_bytes all_offsets (at + length (p ++ c)) o.operand i.operand in
     let bytes = ((p ++ c) ++ b) ++ rest in
     let shape : bytes ≡ p ++ (c ++ (b ++ rest)) = append_assoc (p ++ c) b rest ∙ append_assoc p c (b ++ rest) in
     let front = length-append p c in
     let all = length-append (p ++ c) b in
     let r = subst (λ (l : List ℕ). IsReached a at l i.constrained i.prefixes (length p) (c ++ (b ++ rest))) (sym shape) (prefixes a at i.constrained i.prefixes (c ++ (b ++ rest)) valid.constrained valid.prefixes) in
     let h : opcode_at (drop (length p) bytes) ≡ Ok (o, length c) = ap opcode_at r.remains ∙ code_back i.op i.operand o (b ++ rest) s in
-    let behind : drop (length p + length c) bytes ≡ b ++ rest = moved bytes (length p) c (b ++ rest) r.remains in
+    let behind : drop (length p + length c) bytes ≡ b ++ rest = left_behind bytes (length p) c (b ++ rest) r.remains in
     let whole = other a at bytes r.left i.constrained i.prefixes (length p) o (length c) r.enough r.reads h (λ value. no_flag o.operand i.operand value s.takes) (no_type o.operand i.operand s.takes) in
     let place : at + length (p ++ c) ≡ at + (length p + length c) = omega arith in
-    let read = operand_back a (at + length (p ++ c)) count places o.operand i.operand rest s.takes valid.operand small (omega (arith, small_front i o)) in
-    let read_1 : operand_at a (at + (length p + length c)) o.operand (drop (length p + length c) bytes) ≡ Some (read_operand places i.operand, length b) = ap (λ (n : ℕ). operand_at a n o.operand (drop (length p + length c) bytes)) (sym place) ∙ ap (operand_at a (at + length (p ++ c)) o.operand) behind ∙ read in
+    let read = operand_back a (at + length (p ++ c)) count all_offsets o.operand i.operand rest s.takes valid.operand small (omega (arith, small_front i o)) in
+    let read_1 : operand_at a (at + (length p + length c)) o.operand (drop (length p + length c) bytes) ≡ Some (read_operand all_offsets i.operand, length b) = ap (λ (n : ℕ). operand_at a n o.operand (drop (length p + length c) bytes)) (sym place) ∙ ap (operand_at a (at + length (p ++ c)) o.operand) behind ∙ read in
     let size : length p + length c + length b ≡ length ((p ++ c) ++ b) = omega arith in
-    whole ∙ ap (with_operand i.constrained i.prefixes (length p + length c) o.long) read_1 ∙ (λ k. Ok (record { op = s.long k; operand = read_operand places i.operand; constrained = i.constrained; prefixes = i.prefixes; under = None }, size k))
+    whole ∙ ap (with_operand i.constrained i.prefixes (length p + length c) o.long) read_1 ∙ (λ k. Ok (record { op = s.long k; operand = read_operand all_offsets i.operand; constrained = i.constrained; prefixes = i.prefixes; under = None }, size k))
 
-pub instr_back : (a at count : ℕ) (places : List ℕ) (i : Instr) (rest : List ℕ) → IsValidInstr a count i → AreSmall places → at + 24 * (1 + cases_in i.operand) ≤ 2 ^ 32 → instr_at a at (instr_bytes places at i ++ rest) ≡ Ok (read_instr places i, length (instr_bytes places at i))
+pub instr_back : (a at count : ℕ) (all_offsets : List ℕ) (i : Instr) (rest : List ℕ) → IsValidInstr a count i → AreSmall all_offsets → at + 24 * (1 + cases_in i.operand) ≤ 2 ^ 32 → instr_at a at (instr_bytes all_offsets at i ++ rest) ≡ Ok (read_instr all_offsets i, length (instr_bytes all_offsets at i))
 unfolding instr_bytes
-instr_back a at count places i rest valid small inside =
-    spelled_back a at count places i rest (spelling_of i.op i.operand) refl valid.spelled valid small inside
+instr_back a at count all_offsets i rest valid small inside =
+    spelled_back a at count all_offsets i rest (spelling_of i.op i.operand) refl valid.spelled valid small inside

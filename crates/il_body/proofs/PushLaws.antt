@@ -3,21 +3,19 @@ use Rattle.std.proofs.Common.{◌≡◌, ℕ, zero, suc, ◌+◌, ◌*◌, ◌-�
 use Rattle.std.specs.Prelude.{OnOk, nat_le, ◌==◌, flat_map, replicate}
 use Rattle.std.proofs.Math.Seq.{take-length}
 use Rattle.std.proofs.lemmas.Grind.{common_steps}
+use Rattle.cil_base.proofs.Small.{on_ok}
 use Rattle.cil_model.specs.declared.body.Instr.{Instr}
 use Rattle.cil_model.specs.declared.body.Region.{Region}
 use Rattle.cil_model.specs.declared.body.RegionKind.TheVariants.{Catch}
 use Rattle.cil_model.specs.declared.layout.RawClause.{RawClause}
 use Rattle.cil_model.specs.BodyLayout.{aligned}
-use Rattle.il_body.specs.BodyEncoding.{AllValid, AllValidRegions, behind_code, cases_in, clause_bytes, clause_limit, code_from, counted, instr_bytes, section_bytes, sections}
+use Rattle.cil_model.specs.ValidBody.{AllValid, AllValidRegions}
+use Rattle.il_body.specs.BodyEncoding.{behind_code, cases_in, clause_bytes, clause_limit, code_from, weight, instr_bytes, section_bytes, sections}
 use Rattle.il_body.proofs.ClauseLaws.{limit_some}
 use Rattle.il_body.proofs.CodeLaws.{small_size}
 
 pub grown : (a b c x y : List ℕ) → b ≡ a ++ x → c ≡ b ++ y → c ≡ a ++ (x ++ y)
 grown a b c x y e h = h ∙ ap (λ (l : List ℕ). l ++ y) e ∙ append_assoc a x y
-
-pub on_ok : {X E P Q : Type 0} (r : Result X E) → (P → Q) → OnOk r P → OnOk r Q
-on_ok (Ok x) f p = f p
-on_ok (Err e) f p = tt
 
 -- the rest of a list from one of its items on
 pub rest_of : {X : Type 0} (xs : List X) (k : ℕ) (x : X) → k < length xs → x ≡ get_or xs k x → drop k xs ≡ x ∷ drop (k + 1) xs
@@ -27,17 +25,17 @@ rest_of xs k x lt e =
 
 -- ---- the code
 
-pub code_more : (places out new : List ℕ) (is : List Instr) (k : ℕ) (i : Instr) (whole : List ℕ) → drop k is ≡ i ∷ drop (k + 1) is → new ≡ out ++ instr_bytes places (length out) i → out ++ code_from places (length out) (drop k is) ≡ whole → new ++ code_from places (length new) (drop (k + 1) is) ≡ whole
-code_more places out new is k i whole next e h =
-    let s = instr_bytes places (length out) i in
+pub code_more : (offsets out new : List ℕ) (is : List Instr) (k : ℕ) (i : Instr) (whole : List ℕ) → drop k is ≡ i ∷ drop (k + 1) is → new ≡ out ++ instr_bytes offsets (length out) i → out ++ code_from offsets (length out) (drop k is) ≡ whole → new ++ code_from offsets (length new) (drop (k + 1) is) ≡ whole
+code_more offsets out new is k i whole next e h =
+    let s = instr_bytes offsets (length out) i in
     let rest = drop (k + 1) is in
-    (λ j. e j ++ code_from places (length (e j)) rest) ∙ ap (λ n. (out ++ s) ++ code_from places n rest) (length-append out s) ∙ append_assoc out s (code_from places (length out + length s) rest) ∙ sym (ap (λ l. out ++ code_from places (length out) l) next) ∙ h
+    (λ j. e j ++ code_from offsets (length (e j)) rest) ∙ ap (λ n. (out ++ s) ++ code_from offsets n rest) (length-append out s) ∙ append_assoc out s (code_from offsets (length out + length s) rest) ∙ sym (ap (λ l. out ++ code_from offsets (length out) l) next) ∙ h
 
-pub code_room : (places out new : List ℕ) (is : List Instr) (k : ℕ) (i : Instr) (most : ℕ) → drop k is ≡ i ∷ drop (k + 1) is → new ≡ out ++ instr_bytes places (length out) i → length out + 24 * counted (drop k is) ≤ most → length new + 24 * counted (drop (k + 1) is) ≤ most
-code_room places out new is k i most next e h =
-    let n : length new ≡ length out + length (instr_bytes places (length out) i) = ap (λ (l : List ℕ). length l) e ∙ length-append out (instr_bytes places (length out) i) in
-    let c : counted (drop k is) ≡ 1 + cases_in i.operand + counted (drop (k + 1) is) = ap counted next in
-    omega (arith, n, c, h, small_size places (length out) i)
+pub code_room : (offsets out new : List ℕ) (is : List Instr) (k : ℕ) (i : Instr) (most : ℕ) → drop k is ≡ i ∷ drop (k + 1) is → new ≡ out ++ instr_bytes offsets (length out) i → length out + 24 * weight (drop k is) ≤ most → length new + 24 * weight (drop (k + 1) is) ≤ most
+code_room offsets out new is k i most next e h =
+    let n : length new ≡ length out + length (instr_bytes offsets (length out) i) = ap (λ (l : List ℕ). length l) e ∙ length-append out (instr_bytes offsets (length out) i) in
+    let c : weight (drop k is) ≡ 1 + cases_in i.operand + weight (drop (k + 1) is) = ap weight next in
+    omega (arith, n, c, h, small_size offsets (length out) i)
 
 pub valid_more : (a count : ℕ) (is : List Instr) (k : ℕ) (i : Instr) → drop k is ≡ i ∷ drop (k + 1) is → AllValid a count (drop k is) → AllValid a count (drop (k + 1) is)
 valid_more a count is k i next h = (subst (AllValid a count) next h).1

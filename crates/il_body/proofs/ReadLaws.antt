@@ -6,6 +6,7 @@ use Rattle.std.specs.List.{list_all}
 use Rattle.std.specs.Int.RustNames.{bit_or}
 use Rattle.std.proofs.lemmas.Grind.{common_steps}
 use Rattle.std.proofs.lemmas.Nat.{or_lt}
+use Rattle.cil_base.proofs.Small.{and_both, less}
 use Rattle.cil_base.specs.declared.token.Token.{Token}
 use Rattle.cil_base.specs.declared.rule.Rule.{Rule}
 use Rattle.cil_base.specs.Numbers.{num_at}
@@ -13,14 +14,13 @@ use Rattle.cil_base.specs.Tokens.{token_of}
 use Rattle.cil_model.specs.declared.body.Instr.{Instr}
 use Rattle.cil_model.specs.declared.body.Operand.{Operand}
 use Rattle.cil_model.specs.declared.body.Operand.TheVariants.{Nothing, Int, Index, Target, Targets, Tok}
-use Rattle.cil_model.specs.declared.opcode.Opcode.{Opcode}
-use Rattle.cil_model.specs.declared.opcode.OperandKind.{OperandKind}
-use Rattle.cil_model.specs.declared.opcode.OperandKind.TheVariants as op
-use Rattle.cil_model.specs.Opcodes.{the_opcodes}
-use Rattle.cil_model.specs.SmallCode.{Reading}
-use Rattle.cil_model.specs.BodyCode.{behind, behind_code, cases, instr_at, landing, opcode_at, operand_at, prefixed, switch_of, token_at, widened, with_number, with_operand, with_type}
-use Rattle.il_body.specs.BodyEncoding.{AreBytes, IsSmallToken, is_within, spelling_of, takes, takes_index, takes_int, takes_targets, takes_token}
-use Rattle.il_body.proofs.Encoding.{both, less}
+use Rattle.il_opcodes.specs.declared.opcode.Opcode.{Opcode}
+use Rattle.il_opcodes.specs.declared.opcode.OperandKind.{OperandKind}
+use Rattle.il_opcodes.specs.declared.opcode.OperandKind.TheVariants as op
+use Rattle.il_opcodes.specs.Opcodes.{the_opcodes}
+use Rattle.cil_model.specs.BodyCode.{Reading}
+use Rattle.cil_model.specs.BodyCode.{behind, behind_code, cases, instr_at, landing, opcode_at, operand_at, prefixed, switch_of, token_at, sign_extend, with_number, with_operand, with_type}
+use Rattle.cil_model.specs.ValidBody.{AreBytes, IsSmallToken, is_within, spelling_of, takes, takes_index, takes_int, takes_targets, takes_token}
 use Rattle.il_body.proofs.KindLaws.{IsRow, bytes_drop, is_index16, is_int32, is_int32_number, is_int64, long_row, row_at, says_all, signed_8, signed_32, signed_64, small_at, small_byte, small_token, some_at}
 use Rattle.il_body.proofs.SpellingLaws.{passing, split}
 
@@ -79,7 +79,7 @@ said a at op.Int32 q bytes x n b t h = said_number a op.Int32 q (λ v. Int (cast
 said a at op.Int64 q bytes x n b t h = said_number a op.Int64 q (λ v. Int (cast_signed w64 v)) 8 (num_at bytes 0 8) x n h (λ v e. let s = small_at bytes 0 8 v b e in record { said = int64_takes q (cast_signed w64 v) t (signed_64 v (omega arith)); operand = tt })
 said a at op.Index8 q bytes x n b t h = said_number a op.Index8 q Index 1 (slice_get bytes 0) x n h (λ v e. let s = small_byte bytes v b e in record { said = index_takes q v t (below v 0x10000 (omega arith)); operand = tt })
 said a at op.Index16 q bytes x n b t h = said_number a op.Index16 q Index 2 (num_at bytes 0 2) x n h (λ v e. let s = small_at bytes 0 2 v b e in record { said = index_takes q v t (below v 0x10000 (omega arith)); operand = tt })
-said a at op.Target8 q bytes x n b t h = said_number a op.Target8 q (λ v. Target (landing (at + 1) (widened v))) 1 (slice_get bytes 0) x n h (λ v e. record { said = t; operand = tt })
+said a at op.Target8 q bytes x n b t h = said_number a op.Target8 q (λ v. Target (landing (at + 1) (sign_extend v))) 1 (slice_get bytes 0) x n h (λ v e. record { said = t; operand = tt })
 said a at op.Target32 q bytes x n b t h = said_number a op.Target32 q (λ v. Target (landing (at + 4) v)) 4 (num_at bytes 0 4) x n h (λ v e. record { said = t; operand = tt })
 said a at op.Targets q bytes x n b t h = said_switch a at op.Targets q bytes (num_at bytes 0 4) x n t h
 said a at op.TypeToken q bytes x n b t h = said_token a op.TypeToken q bytes x n b t h
@@ -88,10 +88,10 @@ said a at op.MethodToken q bytes x n b t h = said_token a op.MethodToken q bytes
 said a at op.StringToken q bytes x n b t h = said_token a op.StringToken q bytes x n b t h
 said a at op.AnyToken q bytes x n b t h = said_token a op.AnyToken q bytes x n b t h
 said a at (op.ThatIndex k) q bytes x n b t h =
-    let p = both (is_index16 q) (nat_lt k 0x10000) t in
+    let p = and_both (is_index16 q) (nat_lt k 0x10000) t in
     subst (IsSaid a (op.ThatIndex k) q) (same_operand (Index k) x 0 n h) (record { said = index_takes q k p.0 p.1; operand = tt })
 said a at (op.ThatInt z) q bytes x n b t h =
-    let p = both (is_int32 q) (is_int32_number z) t in
+    let p = and_both (is_int32 q) (is_int32_number z) t in
     subst (IsSaid a (op.ThatInt z) q) (same_operand (Int z) x 0 n h) (record { said = int32_takes q z p.0 p.1; operand = tt })
 said a at (op.Flag value) q bytes x n b t h = absurd cc
 said a at op.Constrained q bytes x n b t h = absurd cc
@@ -129,7 +129,7 @@ spelled_again a at o bytes x n b row h =
     let found = some_of (long_row o) row.long in
     let q = found.0 in
     let test = any_true q (λ (q : Opcode). (q.long == o.long) && says_all o.operand q.operand) the_opcodes (all_true the_opcodes) found.1 in
-    let p = both (q.long == o.long) (says_all o.operand q.operand) test in
+    let p = and_both (q.long == o.long) (says_all o.operand q.operand) test in
     let s = said a at o.operand q.operand bytes x n b p.1 h in
     (found_too (λ (q : Opcode). (q.long == o.long) && says_all o.operand q.operand) (λ (q : Opcode). (q.long == o.long) && takes q.operand x) the_opcodes q found.1 (rw (p.0, s.said) refl), s.operand)
 
@@ -175,7 +175,7 @@ small_flag o value row e =
     let found = some_of (long_row o) row.long in
     let q = found.0 in
     let test = any_true q (λ (q : Opcode). (q.long == o.long) && says_all o.operand q.operand) the_opcodes (all_true the_opcodes) found.1 in
-    let p = both (q.long == o.long) (says_all o.operand q.operand) test in
+    let p = and_both (q.long == o.long) (says_all o.operand q.operand) test in
     less value 8 (subst (λ (k : OperandKind). says_all k q.operand ≡ true) e p.1)
 
 behind_it : (a at : ℕ) (more : Reader) (o : Opcode) (kind : OperandKind) (bytes : List ℕ) (c : Option Token) (f before taken : ℕ) (i : Instr) (n : ℕ) → AreBytes bytes → IsRow o → o.operand ≡ kind → IsGood a more → IfSome c IsSmallToken → f < 8 → before < taken → behind more a at c f taken o.long bytes kind ≡ Ok (i, n) → IsRead a before i n

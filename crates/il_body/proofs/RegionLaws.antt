@@ -18,10 +18,10 @@ use Rattle.cil_model.specs.declared.layout.RawClause.{RawClause}
 use Rattle.cil_model.specs.declared.layout.Section.{Section}
 use Rattle.cil_model.specs.BodyLayout as layout
 use Rattle.cil_model.specs.BodyLayout.{aligned, before, clause_at, clauses, clauses_of, header_of, is_kind, layout_of, section_at, sections_at, width}
-use Rattle.cil_model.specs.BodyOf.{IsInstr, and_all, kind_of, mapped, place_of, region_of, region_with}
-use Rattle.cil_model.specs.SmallCode.{Reads}
+use Rattle.cil_model.specs.BodyOf.{and_all, kind_of, map_all, index_of, region_of, region_with}
+use Rattle.cil_model.specs.BodyCode.{Reads, instr_at}
 use Rattle.il_code.specs.Answers.{Rise}
-use Rattle.il_body.specs.BodyEncoding.{AllValidRegions, AreBytes, IsValidKind, IsValidRegion}
+use Rattle.cil_model.specs.ValidBody.{AllValidRegions, AreBytes, IsValidKind, IsValidRegion}
 use Rattle.il_body.proofs.KindLaws.{bytes_drop, small_num, small_token}
 use Rattle.il_body.proofs.ReadLaws.{is_read}
 
@@ -81,13 +81,13 @@ good_behind : (bytes : List ℕ) (h : MethodHeader) (end : ℕ) (more : Bool) �
 good_behind bytes h end true b = good_sections bytes (length bytes) end b
 good_behind bytes h end false b = tt
 
-laid_out : (bytes : List ℕ) (h : MethodHeader) (inside : Bool) → AreBytes bytes → IsLaid (cond inside (layout.with_clauses h (layout.behind_code bytes h (h.size + h.code_size))) None)
-laid_out bytes h true b = laid_with h (layout.behind_code bytes h (h.size + h.code_size)) (good_behind bytes h (h.size + h.code_size) h.more b)
-laid_out bytes h false b = tt
+layout_with : (bytes : List ℕ) (h : MethodHeader) (inside : Bool) → AreBytes bytes → IsLaid (cond inside (layout.with_clauses h (layout.behind_code bytes h (h.size + h.code_size))) None)
+layout_with bytes h true b = laid_with h (layout.behind_code bytes h (h.size + h.code_size)) (good_behind bytes h (h.size + h.code_size) h.more b)
+layout_with bytes h false b = tt
 
-laid_from : (bytes : List ℕ) (o : Option MethodHeader) → AreBytes bytes → IsLaid (layout.laid_out bytes o)
+laid_from : (bytes : List ℕ) (o : Option MethodHeader) → AreBytes bytes → IsLaid (layout.layout_with bytes o)
 laid_from bytes None b = tt
-laid_from bytes (Some h) b = laid_out bytes h (nat_le (h.size + h.code_size) (length bytes)) b
+laid_from bytes (Some h) b = layout_with bytes h (nat_le (h.size + h.code_size) (length bytes)) b
 
 last_layout : (bytes : List ℕ) (l : Layout) → AreBytes bytes → layout_of bytes ≡ Some l → AllLast l.clauses
 unfolding layout_of
@@ -95,7 +95,7 @@ last_layout bytes l b e = subst IsLaid e (laid_from bytes (header_of bytes) b)
 
 -- ---- offsets rise
 
-low_offsets : (a at : ℕ) (bytes : List ℕ) (is : List Instr) (os : List ℕ) (end : ℕ) → AreBytes bytes → Reads (IsInstr a) at bytes is os end [] → (k : ℕ) → k < length os → at ≤ get_or os k 0
+low_offsets : (a at : ℕ) (bytes : List ℕ) (is : List Instr) (os : List ℕ) (end : ℕ) → AreBytes bytes → Reads (instr_at a) at bytes is os end [] → (k : ℕ) → k < length os → at ≤ get_or os k 0
 low_offsets a at bytes [] [] end b r k lt = absurd (omega arith)
 low_offsets a at bytes [] (o ∷ os) end b r k lt = absurd r
 low_offsets a at bytes (i ∷ is) [] end b r k lt = absurd r
@@ -104,7 +104,7 @@ low_offsets a at bytes (i ∷ is) (o ∷ os) end b r (suc k) lt =
     let n = r.1.0 in
     let l = low_offsets a (at + n) (drop n bytes) is os end (bytes_drop n bytes b) r.1.2 k (omega arith) in omega arith
 
-rise_offsets : (a at : ℕ) (bytes : List ℕ) (is : List Instr) (os : List ℕ) (end : ℕ) → AreBytes bytes → Reads (IsInstr a) at bytes is os end [] → (j k : ℕ) → j < k → k < length os → get_or os j 0 < get_or os k 0
+rise_offsets : (a at : ℕ) (bytes : List ℕ) (is : List Instr) (os : List ℕ) (end : ℕ) → AreBytes bytes → Reads (instr_at a) at bytes is os end [] → (j k : ℕ) → j < k → k < length os → get_or os j 0 < get_or os k 0
 rise_offsets a at bytes [] [] end b r j k lt inside = absurd (omega arith)
 rise_offsets a at bytes [] (o ∷ os) end b r j k lt inside = absurd r
 rise_offsets a at bytes (i ∷ is) [] end b r j k lt inside = absurd r
@@ -123,11 +123,11 @@ rise_offsets a at bytes (i ∷ is) (o ∷ os) end b r (suc j) (suc k) lt inside 
 equal : (m n : ℕ) → (m == n) ≡ true → m ≡ n
 equal m n h = grind (arith, common_steps)
 
-place_at : (offsets : List ℕ) (at k : ℕ) → place_of offsets at ≡ Some k → (k < length offsets) × (get_or offsets k 0 ≡ at)
+place_at : (offsets : List ℕ) (at k : ℕ) → index_of offsets at ≡ Some k → (k < length offsets) × (get_or offsets k 0 ≡ at)
 place_at offsets at k h =
     let p = position-Some (λ (o : ℕ). o == at) offsets k 0 h in (p.0, equal (get_or offsets k 0) at p.1)
 
-in_order : (offsets : List ℕ) (size from count i j : ℕ) → Rise offsets → place_of offsets from ≡ Some i → place_of (offsets ++ size ∷ []) (from + count) ≡ Some j → (i < length offsets) × (j ≤ length offsets) × (i ≤ j)
+in_order : (offsets : List ℕ) (size from count i j : ℕ) → Rise offsets → index_of offsets from ≡ Some i → index_of (offsets ++ size ∷ []) (from + count) ≡ Some j → (i < length offsets) × (j ≤ length offsets) × (i ≤ j)
 in_order offsets size from count i j rise e f =
     let p = place_at offsets from i e in
     let q = place_at (offsets ++ size ∷ []) (from + count) j f in
@@ -146,13 +146,13 @@ in_order offsets size from count i j rise e f =
 kind_valid : (offsets : List ℕ) (c : RawClause) (kind : RegionKind) → c.last < 2 ^ 32 → kind_of offsets c ≡ Some kind → IsValidKind (length offsets) kind
 kind_valid offsets c kind small h = go (c.flags == 0) (c.flags == 1) (c.flags == 2) (c.flags == 4) h
   where
-    filter : (o : Option ℕ) → place_of offsets c.last ≡ o → option_map Filter o ≡ Some kind → IsValidKind (length offsets) kind
+    filter : (o : Option ℕ) → index_of offsets c.last ≡ o → option_map Filter o ≡ Some kind → IsValidKind (length offsets) kind
     filter None e h = absurd cc
     filter (Some k) e h = let same : Filter k ≡ kind = cc in subst (IsValidKind (length offsets)) same (place_at offsets c.last k e).0
 
-    go : (p q r s : Bool) → cond {A = Option RegionKind} p (Some (Catch (token_of c.last))) (cond q (option_map Filter (place_of offsets c.last)) (cond r (Some Finally) (cond s (Some Fault) None))) ≡ Some kind → IsValidKind (length offsets) kind
+    go : (p q r s : Bool) → cond {A = Option RegionKind} p (Some (Catch (token_of c.last))) (cond q (option_map Filter (index_of offsets c.last)) (cond r (Some Finally) (cond s (Some Fault) None))) ≡ Some kind → IsValidKind (length offsets) kind
     go true q r s h = let same : Catch (token_of c.last) ≡ kind = cc in subst (IsValidKind (length offsets)) same (small_token c.last small)
-    go false true r s h = filter (place_of offsets c.last) refl h
+    go false true r s h = filter (index_of offsets c.last) refl h
     go false false true s h = let same : Finally ≡ kind = cc in subst (IsValidKind (length offsets)) same tt
     go false false false true h = let same : Fault ≡ kind = cc in subst (IsValidKind (length offsets)) same tt
     go false false false false h = absurd cc
@@ -178,7 +178,7 @@ parts (Some k) (Some a) (Some b) (Some c) (Some d) r h =
 
 region_valid : (offsets : List ℕ) (size : ℕ) (c : RawClause) (r : Region) → Rise offsets → c.last < 2 ^ 32 → region_of offsets size c ≡ Some r → IsValidRegion (length offsets) r
 region_valid offsets size c r rise small h =
-    let p = parts (kind_of offsets c) (place_of offsets c.try_from) (place_of (offsets ++ size ∷ []) (c.try_from + c.try_size)) (place_of offsets c.handler_from) (place_of (offsets ++ size ∷ []) (c.handler_from + c.handler_size)) r h in
+    let p = parts (kind_of offsets c) (index_of offsets c.try_from) (index_of (offsets ++ size ∷ []) (c.try_from + c.try_size)) (index_of offsets c.handler_from) (index_of (offsets ++ size ∷ []) (c.handler_from + c.handler_size)) r h in
     let x = in_order offsets size c.try_from c.try_size r.try_from r.try_to rise p.try_from p.try_to in
     let y = in_order offsets size c.handler_from c.handler_size r.handler_from r.handler_to rise p.handler_from p.handler_to in
     record { kind = kind_valid offsets c r.kind small p.kind; tried = x.0; tried_end = x.1; tried_order = x.2; handler = y.0; handler_end = y.1; handler_order = y.2 }
@@ -190,11 +190,11 @@ region_more offsets size c rs (Some r) (Some qs) rise small e h more =
     let same : r ∷ qs ≡ rs = cc in
     subst (AllValidRegions (length offsets)) same (region_valid offsets size c r rise small e, more qs refl)
 
-valid_regions : (offsets : List ℕ) (size : ℕ) (cs : List RawClause) (rs : List Region) → Rise offsets → AllLast cs → mapped (region_of offsets size) cs ≡ Some rs → AllValidRegions (length offsets) rs
+valid_regions : (offsets : List ℕ) (size : ℕ) (cs : List RawClause) (rs : List Region) → Rise offsets → AllLast cs → map_all (region_of offsets size) cs ≡ Some rs → AllValidRegions (length offsets) rs
 valid_regions offsets size [] rs rise small h = let none : List Region = [] in let same : none ≡ rs = cc in subst (AllValidRegions (length offsets)) same tt
 valid_regions offsets size (c ∷ cs) rs rise small h =
-    region_more offsets size c rs (region_of offsets size c) (mapped (region_of offsets size) cs) rise small.0 refl h (λ qs e. valid_regions offsets size cs qs rise small.1 e)
+    region_more offsets size c rs (region_of offsets size c) (map_all (region_of offsets size) cs) rise small.0 refl h (λ qs e. valid_regions offsets size cs qs rise small.1 e)
 
-pub regions_valid : (a : ℕ) (bytes code : List ℕ) (l : Layout) (is : List Instr) (offsets : List ℕ) (rs : List Region) → AreBytes bytes → AreBytes code → layout_of bytes ≡ Some l → Reads (IsInstr a) 0 code is offsets l.header.code_size [] → mapped (region_of offsets l.header.code_size) l.clauses ≡ Some rs → AllValidRegions (length offsets) rs
+pub regions_valid : (a : ℕ) (bytes code : List ℕ) (l : Layout) (is : List Instr) (offsets : List ℕ) (rs : List Region) → AreBytes bytes → AreBytes code → layout_of bytes ≡ Some l → Reads (instr_at a) 0 code is offsets l.header.code_size [] → map_all (region_of offsets l.header.code_size) l.clauses ≡ Some rs → AllValidRegions (length offsets) rs
 regions_valid a bytes code l is offsets rs b c laid reads h =
     valid_regions offsets l.header.code_size l.clauses rs (rise_offsets a 0 code is offsets l.header.code_size c reads) (last_layout bytes l b laid) h

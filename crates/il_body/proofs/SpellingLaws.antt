@@ -4,15 +4,16 @@ use Rattle.std.specs.Prelude.{nat_le, nat_lt, not, slice_get, ◌==◌, find}
 use Rattle.std.specs.List.{list_all}
 use Rattle.std.proofs.lemmas.Bool.{leb-true}
 use Rattle.std.proofs.lemmas.Grind.{common_steps}
+use Rattle.cil_base.proofs.Small.{and_both, decide}
 use Rattle.cil_model.specs.declared.body.Operand.{Operand}
 use Rattle.cil_model.specs.declared.body.Operand.TheVariants.{Nothing, Int, Index, Target, Targets, Tok}
-use Rattle.cil_model.specs.declared.opcode.Opcode.{Opcode}
-use Rattle.cil_model.specs.declared.opcode.OperandKind.{OperandKind}
-use Rattle.cil_model.specs.declared.opcode.OperandKind.TheVariants as op
-use Rattle.cil_model.specs.Opcodes.{opcode_of, the_opcodes}
+use Rattle.il_opcodes.specs.declared.opcode.Opcode.{Opcode}
+use Rattle.il_opcodes.specs.declared.opcode.OperandKind.{OperandKind}
+use Rattle.il_opcodes.specs.declared.opcode.OperandKind.TheVariants as op
+use Rattle.il_opcodes.specs.Opcodes.{opcode_of, the_opcodes}
 use Rattle.cil_model.specs.BodyCode.{opcode_at}
-use Rattle.il_body.specs.BodyEncoding.{AreShortest, code_bytes, spelling_of, spelling_room, takes}
-use Rattle.il_body.proofs.Encoding.{both, decide}
+use Rattle.cil_model.specs.ValidBody.{spelling_of, takes}
+use Rattle.il_body.specs.BodyEncoding.{AreShortest, code_bytes, spelling_room}
 
 pub split : {X : Type 0} (b : Bool) (x o : X) (r : Option X) → cond b (Some x) r ≡ Some o → ((b ≡ true) × (x ≡ o)) ⊎ ((b ≡ false) × (r ≡ Some o))
 split true x o r h = inl (refl, cc)
@@ -31,7 +32,7 @@ the_rise = refl
 lowest : (low : ℕ) (p : Opcode → Bool) (os : List Opcode) (o : Opcode) → rises low os ≡ true → find p os ≡ Some o → low ≤ o.code
 lowest low p [] o r f = cc
 lowest low p (x ∷ xs) o r f =
-    let b = both (nat_le low x.code) (rises (x.code + 1) xs) r in
+    let b = and_both (nat_le low x.code) (rises (x.code + 1) xs) r in
     let le = leb-true low x.code b.0 in
     ⊎_elim (λ e. subst (λ (y : Opcode). low ≤ y.code) e.1 le) (λ e. let l = lowest (x.code + 1) p xs o b.1 e.1 in omega arith) (split (p x) x o (find p xs) f)
 
@@ -44,7 +45,7 @@ differ m n h = grind (arith, common_steps)
 at_code : (low : ℕ) (p : Opcode → Bool) (os : List Opcode) (o : Opcode) → rises low os ≡ true → find p os ≡ Some o → find (λ (x : Opcode). x.code == o.code) os ≡ Some o
 at_code low p [] o r f = cc
 at_code low p (x ∷ xs) o r f =
-    let b = both (nat_le low x.code) (rises (x.code + 1) xs) r in
+    let b = and_both (nat_le low x.code) (rises (x.code + 1) xs) r in
     ⊎_elim
     (λ e. subst (λ (y : Opcode). find (λ (z : Opcode). z.code == y.code) (x ∷ xs) ≡ Some y) e.1 (rw (same x.code) refl))
     (λ e. let l = lowest (x.code + 1) p xs o b.1 e.1 in rw (differ x.code o.code (omega arith)) (at_code (x.code + 1) p xs o b.1 e.1))
@@ -53,7 +54,7 @@ at_code low p (x ∷ xs) o r f =
 pub passing : (p q : Opcode → Bool) (os : List Opcode) (o : Opcode) → list_all q os ≡ true → find p os ≡ Some o → (p o ≡ true) × (q o ≡ true)
 passing p q [] o all f = cc
 passing p q (x ∷ xs) o all f =
-    let b = both (q x) (list_all q xs) all in
+    let b = and_both (q x) (list_all q xs) all in
     ⊎_elim (λ e. subst (λ (y : Opcode). (p y ≡ true) × (q y ≡ true)) e.1 (e.0, b.0)) (λ e. passing p q xs o b.1 e.1) (split (p x) x o (find p xs) f)
 
 abbrev coded : Opcode → Bool
@@ -77,7 +78,7 @@ pub is_spelling : (code : ℕ) (operand : Operand) (o : Opcode) → spelling_of 
 unfolding opcode_of
 is_spelling code operand o h =
     let x = passing (λ (o : Opcode). (o.long == code) && takes o.operand operand) coded the_opcodes o all_coded h in
-    let y = both (o.long == code) (takes o.operand operand) x.0 in
+    let y = and_both (o.long == code) (takes o.operand operand) x.0 in
     record { found = at_code 0 (λ (o : Opcode). (o.long == code) && takes o.operand operand) the_opcodes o the_rise h; long = equal o.long code y.0; takes = y.1; coded = x.1 }
 
 -- ---- a code is read back
@@ -135,8 +136,8 @@ all_in_order = refl
 
 all_at : (r : Opcode → Bool) (os : List Opcode) (k : ℕ) (q : Opcode) → list_all r os ≡ true → slice_get os k ≡ Some q → r q ≡ true
 all_at r [] k q h e = absurd cc
-all_at r (o ∷ os) zero q h e = let same : o ≡ q = cc in subst (λ (x : Opcode). r x ≡ true) same (both (r o) (list_all r os) h).0
-all_at r (o ∷ os) (suc k) q h e = all_at r os k q (both (r o) (list_all r os) h).1 e
+all_at r (o ∷ os) zero q h e = let same : o ≡ q = cc in subst (λ (x : Opcode). r x ≡ true) same (and_both (r o) (list_all r os) h).0
+all_at r (o ∷ os) (suc k) q h e = all_at r os k q (and_both (r o) (list_all r os) h).1 e
 
 long_enough : (same short : Bool) (m n : ℕ) → (not same || short || nat_le m n) ≡ true → same ≡ true → short ≡ false → m ≤ n
 long_enough true true m n h s b = absurd cc
@@ -160,10 +161,10 @@ first_is_shortest code operand (x ∷ os) o q zero ordered f e long t =
     let first : ((x.long == code) && takes x.operand operand) ≡ true = subst (λ (y : Opcode). ((y.long == code) && takes y.operand operand) ≡ true) (sym here) test in
     ⊎_elim (λ s. subst (λ (y : Opcode). spelling_room y ≤ spelling_room q) (sym here ∙ s.1) (omega arith)) (λ s. absurd cc) (split ((x.long == code) && takes x.operand operand) x o (find (λ (x : Opcode). (x.long == code) && takes x.operand operand) os) f)
 first_is_shortest code operand (x ∷ os) o q (suc k) ordered f e long t =
-    let b = both (list_all (no_shorter x) os) (in_order os) ordered in
+    let b = and_both (list_all (no_shorter x) os) (in_order os) ordered in
     ⊎_elim
     (λ s.
-    let test = both (x.long == code) (takes x.operand operand) s.0 in
+    let test = and_both (x.long == code) (takes x.operand operand) s.0 in
     let alike : (q.long == x.long) ≡ true = rw (long, equal x.long code test.0, same code) refl in
     let le = long_enough (q.long == x.long) (is_short_branch q.operand) (spelling_room x) (spelling_room q) (all_at (no_shorter x) os k q b.0 e) alike (no_branch q.operand operand t) in
     subst (λ (y : Opcode). spelling_room y ≤ spelling_room q) s.1 le)

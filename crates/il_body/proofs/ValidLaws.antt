@@ -13,10 +13,11 @@ use Rattle.cil_model.specs.declared.body.Operand.TheVariants.{Nothing, Int, Inde
 use Rattle.cil_model.specs.declared.layout.Layout.{Layout}
 use Rattle.cil_model.specs.declared.layout.MethodHeader.{MethodHeader}
 use Rattle.cil_model.specs.declared.layout.RawClause.{RawClause}
-use Rattle.cil_model.specs.SmallCode.{Reads, locals_number}
-use Rattle.cil_model.specs.BodyLayout.{are_fat_flags, behind_code, code_of, fat_header, header_of, if_fat, laid_out, layout_of, locals_of, tiny_header, with_clauses}
-use Rattle.cil_model.specs.BodyOf.{IsInstr, StandsFor, and_all, mapped, place_of, placed, placed_operand}
-use Rattle.il_body.specs.BodyEncoding.{AllBelow, AllValid, AllValidRegions, AreBytes, IsSmallToken, IsValid, IsValidInstr, IsValidOperand, spelling_of}
+use Rattle.cil_model.specs.BodyCode.{Reads, instr_at}
+use Rattle.cil_model.specs.BodyLayout.{locals_number}
+use Rattle.cil_model.specs.BodyLayout.{are_fat_flags, behind_code, code_of, fat_header, header_of, if_fat, layout_with, layout_of, locals_of, tiny_header, with_clauses}
+use Rattle.cil_model.specs.BodyOf.{StandsFor, and_all, map_all, index_of, with_indexes, operand_with_indexes}
+use Rattle.cil_model.specs.ValidBody.{AllBelow, AllValid, AllValidRegions, AreBytes, IsSmallToken, IsValid, IsValidInstr, IsValidOperand, spelling_of}
 use Rattle.il_body.proofs.KindLaws.{bytes_drop, small_num}
 use Rattle.il_body.proofs.ReadLaws.{IsRead, IsReadOperand, is_read}
 use Rattle.il_body.proofs.RegionLaws.{regions_valid}
@@ -25,7 +26,7 @@ abbrev AllRead : ℕ → List Instr → Type 0
 AllRead a [] = Unit {0}
 AllRead a (i ∷ is) = ((n : ℕ) × IsRead a 0 i n) × AllRead a is
 
-all_read : (a at : ℕ) (bytes : List ℕ) (is : List Instr) (os : List ℕ) (end : ℕ) → AreBytes bytes → Reads (IsInstr a) at bytes is os end [] → AllRead a is × (length is ≡ length os)
+all_read : (a at : ℕ) (bytes : List ℕ) (is : List Instr) (os : List ℕ) (end : ℕ) → AreBytes bytes → Reads (instr_at a) at bytes is os end [] → AllRead a is × (length is ≡ length os)
 all_read a at bytes [] [] end b r = (tt, refl)
 all_read a at bytes [] (o ∷ os) end b r = absurd r
 all_read a at bytes (i ∷ is) [] end b r = absurd r
@@ -34,69 +35,69 @@ all_read a at bytes (i ∷ is) (o ∷ os) end b r =
     let more = all_read a (at + n) (drop n bytes) is os end (bytes_drop n bytes b) r.1.2 in
     (((n, is_read a at bytes i n b r.1.1), more.0), ap (λ (m : ℕ). suc m) more.1)
 
-below : (offsets : List ℕ) (at k : ℕ) → place_of offsets at ≡ Some k → k < length offsets
+below : (offsets : List ℕ) (at k : ℕ) → index_of offsets at ≡ Some k → k < length offsets
 below offsets at k h = (position-Some (λ (o : ℕ). o == at) offsets k 0 h).0
 
--- ---- places for offsets
+-- ---- all_offsets for offsets
 
--- The operand says what the one that is read does, by places.
+-- The operand says what the one that is read does, by all_offsets.
 record IsPut (a : ℕ) (offsets : List ℕ) (x y : Operand) : Type 0 where
   pub valid : IsValidOperand a (length offsets) y
   pub same : (code : ℕ) → spelling_of code y ≡ spelling_of code x
 
-put_target : (a : ℕ) (offsets : List ℕ) (at : ℕ) (y : Operand) (o : Option ℕ) → place_of offsets at ≡ o → option_map Target o ≡ Some y → IsPut a offsets (Target at) y
+put_target : (a : ℕ) (offsets : List ℕ) (at : ℕ) (y : Operand) (o : Option ℕ) → index_of offsets at ≡ o → option_map Target o ≡ Some y → IsPut a offsets (Target at) y
 put_target a offsets at y None e h = absurd cc
 put_target a offsets at y (Some k) e h =
     let same : Target k ≡ y = cc in
     subst (IsPut a offsets (Target at)) same (record { valid = below offsets at k e; same = λ code. refl })
 
-all_below : (offsets ats ks : List ℕ) (o : Option ℕ) (p : Option (List ℕ)) (at : ℕ) → place_of offsets at ≡ o → and_all o p ≡ Some ks → ((ls : List ℕ) → p ≡ Some ls → AllBelow (length offsets) ls) → AllBelow (length offsets) ks
+all_below : (offsets ats ks : List ℕ) (o : Option ℕ) (p : Option (List ℕ)) (at : ℕ) → index_of offsets at ≡ o → and_all o p ≡ Some ks → ((ls : List ℕ) → p ≡ Some ls → AllBelow (length offsets) ls) → AllBelow (length offsets) ks
 all_below offsets ats ks None p at e h more = absurd cc
 all_below offsets ats ks (Some k) None at e h more = absurd cc
 all_below offsets ats ks (Some k) (Some ls) at e h more =
     let same : k ∷ ls ≡ ks = cc in subst (AllBelow (length offsets)) same (below offsets at k e, more ls refl)
 
-cases_below : (offsets ats ks : List ℕ) → mapped (place_of offsets) ats ≡ Some ks → AllBelow (length offsets) ks
+cases_below : (offsets ats ks : List ℕ) → map_all (index_of offsets) ats ≡ Some ks → AllBelow (length offsets) ks
 cases_below offsets [] ks h = let none : List ℕ = [] in let same : none ≡ ks = cc in subst (AllBelow (length offsets)) same tt
 cases_below offsets (at ∷ ats) ks h =
-    all_below offsets ats ks (place_of offsets at) (mapped (place_of offsets) ats) at refl h (λ ls e. cases_below offsets ats ls e)
+    all_below offsets ats ks (index_of offsets at) (map_all (index_of offsets) ats) at refl h (λ ls e. cases_below offsets ats ls e)
 
-put_targets : (a : ℕ) (offsets ats : List ℕ) (y : Operand) (o : Option (List ℕ)) → mapped (place_of offsets) ats ≡ o → option_map Targets o ≡ Some y → IsPut a offsets (Targets ats) y
+put_targets : (a : ℕ) (offsets ats : List ℕ) (y : Operand) (o : Option (List ℕ)) → map_all (index_of offsets) ats ≡ o → option_map Targets o ≡ Some y → IsPut a offsets (Targets ats) y
 put_targets a offsets ats y None e h = absurd cc
 put_targets a offsets ats y (Some ks) e h =
     let same : Targets ks ≡ y = cc in
     subst (IsPut a offsets (Targets ats)) same (record { valid = cases_below offsets ats ks e; same = λ code. refl })
 
-put : (a : ℕ) (offsets : List ℕ) (x y : Operand) → IsReadOperand a x → placed_operand offsets x ≡ Some y → IsPut a offsets x y
-put a offsets Nothing y r h = let same : Nothing ≡ y = cc in subst (IsPut a offsets Nothing) same (record { valid = tt; same = λ code. refl })
-put a offsets (Int z) y r h = let same : Int z ≡ y = cc in subst (IsPut a offsets (Int z)) same (record { valid = tt; same = λ code. refl })
-put a offsets (Index k) y r h = let same : Index k ≡ y = cc in subst (IsPut a offsets (Index k)) same (record { valid = tt; same = λ code. refl })
-put a offsets (Target at) y r h = put_target a offsets at y (place_of offsets at) refl h
-put a offsets (Targets ats) y r h = put_targets a offsets ats y (mapped (place_of offsets) ats) refl h
-put a offsets (Tok assembly token) y r h = let same : Tok assembly token ≡ y = cc in subst (IsPut a offsets (Tok assembly token)) same (record { valid = r; same = λ code. refl })
+put_indexes : (a : ℕ) (offsets : List ℕ) (x y : Operand) → IsReadOperand a x → operand_with_indexes offsets x ≡ Some y → IsPut a offsets x y
+put_indexes a offsets Nothing y r h = let same : Nothing ≡ y = cc in subst (IsPut a offsets Nothing) same (record { valid = tt; same = λ code. refl })
+put_indexes a offsets (Int z) y r h = let same : Int z ≡ y = cc in subst (IsPut a offsets (Int z)) same (record { valid = tt; same = λ code. refl })
+put_indexes a offsets (Index k) y r h = let same : Index k ≡ y = cc in subst (IsPut a offsets (Index k)) same (record { valid = tt; same = λ code. refl })
+put_indexes a offsets (Target at) y r h = put_target a offsets at y (index_of offsets at) refl h
+put_indexes a offsets (Targets ats) y r h = put_targets a offsets ats y (map_all (index_of offsets) ats) refl h
+put_indexes a offsets (Tok assembly token) y r h = let same : Tok assembly token ≡ y = cc in subst (IsPut a offsets (Tok assembly token)) same (record { valid = r; same = λ code. refl })
 
-valid_one : (a n : ℕ) (offsets : List ℕ) (r i : Instr) (o : Option Operand) → IsRead a 0 r n → placed_operand offsets r.operand ≡ o → option_map (λ (x : Operand). record r { operand = x }) o ≡ Some i → IsValidInstr a (length offsets) i
+valid_one : (a n : ℕ) (offsets : List ℕ) (r i : Instr) (o : Option Operand) → IsRead a 0 r n → operand_with_indexes offsets r.operand ≡ o → option_map (λ (x : Operand). record r { operand = x }) o ≡ Some i → IsValidInstr a (length offsets) i
 valid_one a n offsets r i None read e h = absurd cc
 valid_one a n offsets r i (Some y) read e h =
-    let p = put a offsets r.operand y read.operand e in
+    let p = put_indexes a offsets r.operand y read.operand e in
     let j : Instr = record r { operand = y } in
     let same : j ≡ i = cc in
     let all : IsValidInstr a (length offsets) j = record { spelled = ap is_some (p.same r.op) ∙ read.spelled; operand = p.valid; constrained = read.constrained; prefixes = read.prefixes } in
     subst (IsValidInstr a (length offsets)) same all
 
-valid_more : (a n : ℕ) (offsets : List ℕ) (r : Instr) (is : List Instr) (o : Option Instr) (p : Option (List Instr)) (count : ℕ) → IsRead a 0 r n → placed offsets r ≡ o → and_all o p ≡ Some is → ((ls : List Instr) → p ≡ Some ls → AllValid a (length offsets) ls × (length ls ≡ count)) → AllValid a (length offsets) is × (length is ≡ suc count)
+valid_more : (a n : ℕ) (offsets : List ℕ) (r : Instr) (is : List Instr) (o : Option Instr) (p : Option (List Instr)) (count : ℕ) → IsRead a 0 r n → with_indexes offsets r ≡ o → and_all o p ≡ Some is → ((ls : List Instr) → p ≡ Some ls → AllValid a (length offsets) ls × (length ls ≡ count)) → AllValid a (length offsets) is × (length is ≡ suc count)
 valid_more a n offsets r is None p count read e h more = absurd cc
 valid_more a n offsets r is (Some i) None count read e h more = absurd cc
 valid_more a n offsets r is (Some i) (Some ls) count read e h more =
     let same : i ∷ ls ≡ is = cc in
     let rest = more ls refl in
     subst (λ (l : List Instr). AllValid a (length offsets) l × (length l ≡ suc count)) same
-    ((valid_one a n offsets r i (placed_operand offsets r.operand) read refl e, rest.0), ap (λ (m : ℕ). suc m) rest.1)
+    ((valid_one a n offsets r i (operand_with_indexes offsets r.operand) read refl e, rest.0), ap (λ (m : ℕ). suc m) rest.1)
 
-valid_all : (a : ℕ) (offsets : List ℕ) (raw is : List Instr) → AllRead a raw → mapped (placed offsets) raw ≡ Some is → AllValid a (length offsets) is × (length is ≡ length raw)
+valid_all : (a : ℕ) (offsets : List ℕ) (raw is : List Instr) → AllRead a raw → map_all (with_indexes offsets) raw ≡ Some is → AllValid a (length offsets) is × (length is ≡ length raw)
 valid_all a offsets [] is read h = let none : List Instr = [] in let same : none ≡ is = cc in subst (λ (l : List Instr). AllValid a (length offsets) l × (length l ≡ 0)) same (tt, refl)
 valid_all a offsets (r ∷ raw) is read h =
-    valid_more a read.0.0 offsets r is (placed offsets r) (mapped (placed offsets) raw) (length raw) read.0.1 refl h (λ ls e. valid_all a offsets raw ls read.1 e)
+    valid_more a read.0.0 offsets r is (with_indexes offsets r) (map_all (with_indexes offsets) raw) (length raw) read.0.1 refl h (λ ls e. valid_all a offsets raw ls read.1 e)
 
 bytes_take : (n : ℕ) (bytes : List ℕ) → AreBytes bytes → AreBytes (take n bytes)
 bytes_take zero bytes b k = omega arith
@@ -133,7 +134,7 @@ header_from h l (Some x) e =
     let m : Layout = record { header = h; clauses = x.0; len = x.1 } in
     let same : m ≡ l = cc in sym (ap (λ (k : Layout). k.header) same)
 
-laid_small : (bytes : List ℕ) (l : Layout) (o : Option MethodHeader) → HasSmall o → laid_out bytes o ≡ Some l → locals_number l.header.locals < 2 ^ 32
+laid_small : (bytes : List ℕ) (l : Layout) (o : Option MethodHeader) → HasSmall o → layout_with bytes o ≡ Some l → locals_number l.header.locals < 2 ^ 32
 laid_small bytes l None s e = absurd cc
 laid_small bytes l (Some h) s e = go (nat_le (h.size + h.code_size) (length bytes)) e
   where

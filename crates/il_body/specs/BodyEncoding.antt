@@ -1,5 +1,5 @@
 -- The bytes that are written for a method body (ECMA-335, II.25.4 and III.1.9): each instruction in its shortest spelling, but branches and leave in the long one.
-use Rattle.std.specs.Prelude.{◌≡◌, ◌≤◌, ◌<◌, ℕ, zero, suc, ◌+◌, ◌-◌, ◌*◌, ◌%◌, ◌^◌, Bool, true, false, ◌==◌, ◌&&◌, not, nat_lt, nat_le, if◌then◌else◌, List, [], ◌∷◌, ◌++◌, length, get_or, slice_get, take, drop, map, flat_map, find, replicate, ℤ, pos, negsuc, Option, Some, None, IfSome, is_some, IsTrue}
+use Rattle.std.specs.Prelude.{◌≡◌, ◌≤◌, ◌<◌, ℕ, zero, suc, ◌+◌, ◌-◌, ◌*◌, ◌%◌, ◌^◌, Bool, true, false, ◌==◌, ◌&&◌, not, nat_lt, nat_le, if◌then◌else◌, List, [], ◌∷◌, ◌++◌, length, get_or, slice_get, take, drop, map, flat_map, find, replicate, ℤ, pos, negsuc, Option, Some, None, IfSome, is_some, IsTrue, is_none}
 use Rattle.std.specs.Int.{w8, w16, w32, w64, cast_unsigned, to_le_bytes}
 use Rattle.std.specs.Ordering.{int_eq}
 use Rattle.cil_base.specs.declared.token.Token.{Token}
@@ -14,65 +14,12 @@ use Rattle.cil_model.specs.declared.body.RegionKind.{RegionKind}
 use Rattle.cil_model.specs.declared.body.RegionKind.TheVariants.{Catch, Filter, Finally, Fault}
 use Rattle.cil_model.specs.declared.body.Body.{Body}
 use Rattle.cil_model.specs.declared.layout.RawClause.{RawClause}
-use Rattle.cil_model.specs.declared.opcode.Opcode.{Opcode}
-use Rattle.cil_model.specs.declared.opcode.OperandKind.{OperandKind}
-use Rattle.cil_model.specs.declared.opcode.OperandKind.TheVariants as op
-use Rattle.cil_model.specs.Opcodes.{the_opcodes}
-use Rattle.cil_model.specs.BodyLayout.{aligned, bit}
-use Rattle.cil_model.specs.SmallCode.{displacement, is_absent, locals_number}
-
--- ---- which spelling an instruction has
-
--- whether a number is one of a signed type that has so many of each sign
-abbrev pub is_within : ℕ → ℤ → Bool
-is_within half (pos n) = nat_lt n half
-is_within half (negsuc n) = nat_lt n half
-
-abbrev pub takes_int : OperandKind → ℤ → Bool
-takes_int op.Int8 z = is_within 0x80 z
-takes_int op.Int32 z = is_within (2 ^ 31) z
-takes_int op.Int64 z = is_within (2 ^ 63) z
-takes_int (op.ThatInt y) z = int_eq y z
-takes_int kind z = false
-
-abbrev pub takes_index : OperandKind → ℕ → Bool
-takes_index op.Index8 k = nat_lt k 0x100
-takes_index op.Index16 k = nat_lt k 0x10000
-takes_index (op.ThatIndex j) k = j == k
-takes_index kind k = false
-
-abbrev pub takes_token : OperandKind → Bool
-takes_token op.TypeToken = true
-takes_token op.FieldToken = true
-takes_token op.MethodToken = true
-takes_token op.StringToken = true
-takes_token op.AnyToken = true
-takes_token kind = false
-
-abbrev pub takes_nothing : OperandKind → Bool
-takes_nothing op.Nothing = true
-takes_nothing kind = false
-
-abbrev pub takes_target : OperandKind → Bool
-takes_target op.Target32 = true
-takes_target kind = false
-
-abbrev pub takes_targets : OperandKind → Bool
-takes_targets op.Targets = true
-takes_targets kind = false
-
--- whether a spelling whose operand is of the kind can say this one; a short branch says none
-abbrev pub takes : OperandKind → Operand → Bool
-takes kind Nothing = takes_nothing kind
-takes kind (Int z) = takes_int kind z
-takes kind (Index k) = takes_index kind k
-takes kind (Target k) = takes_target kind
-takes kind (Targets ks) = takes_targets kind
-takes kind (Tok a token) = takes_token kind
-
--- The spelling is the first one that says it; the table has the short ones first.
-abbrev pub spelling_of : ℕ → Operand → Option Opcode
-spelling_of code operand = find (λ o. (o.long == code) && takes o.operand operand) the_opcodes
+use Rattle.il_opcodes.specs.declared.opcode.Opcode.{Opcode}
+use Rattle.il_opcodes.specs.declared.opcode.OperandKind.{OperandKind}
+use Rattle.il_opcodes.specs.declared.opcode.OperandKind.TheVariants as op
+use Rattle.il_opcodes.specs.Opcodes.{the_opcodes}
+use Rattle.cil_model.specs.BodyLayout.{aligned, bit, locals_number}
+use Rattle.cil_model.specs.ValidBody.{spelling_of, takes}
 
 -- ---- the bytes of an instruction
 
@@ -100,30 +47,34 @@ index_bytes op.Index8 k = k ∷ []
 index_bytes op.Index16 k = to_le_bytes w16 k
 index_bytes kind k = []
 
+-- how far it is to a target from the offset where an instruction ends
+abbrev pub displacement : ℕ → ℕ → ℕ
+displacement target end = (target + (2 ^ 32 - end)) % 2 ^ 32
+
 -- the displacements of a switch that ends at an offset
 abbrev pub case_bytes : List ℕ → ℕ → List ℕ → List ℕ
-case_bytes places end [] = []
-case_bytes places end (k ∷ ks) = to_le_bytes w32 (displacement (get_or places k 0) end) ++ case_bytes places end ks
+case_bytes offsets end [] = []
+case_bytes offsets end (k ∷ ks) = to_le_bytes w32 (displacement (get_or offsets k 0) end) ++ case_bytes offsets end ks
 
--- The operand stands at an offset in the code, and the instructions begin at these places.
+-- The operand stands at an offset in the code, and the instructions begin at these offsets.
 abbrev pub operand_bytes : List ℕ → ℕ → OperandKind → Operand → List ℕ
-operand_bytes places at kind Nothing = []
-operand_bytes places at kind (Int z) = int_bytes kind z
-operand_bytes places at kind (Index k) = index_bytes kind k
-operand_bytes places at kind (Target k) = to_le_bytes w32 (displacement (get_or places k 0) (at + 4))
-operand_bytes places at kind (Targets ks) = to_le_bytes w32 (length ks) ++ case_bytes places (at + 4 + 4 * length ks) ks
-operand_bytes places at kind (Tok a token) = to_le_bytes w32 (token_number token)
+operand_bytes offsets at kind Nothing = []
+operand_bytes offsets at kind (Int z) = int_bytes kind z
+operand_bytes offsets at kind (Index k) = index_bytes kind k
+operand_bytes offsets at kind (Target k) = to_le_bytes w32 (displacement (get_or offsets k 0) (at + 4))
+operand_bytes offsets at kind (Targets ks) = to_le_bytes w32 (length ks) ++ case_bytes offsets (at + 4 + 4 * length ks) ks
+operand_bytes offsets at kind (Tok a token) = to_le_bytes w32 (token_number token)
 
 abbrev pub front_bytes : Instr → Opcode → List ℕ
 front_bytes i o = prefix_bytes i.constrained i.prefixes ++ code_bytes o.code
 
 abbrev pub spelled : List ℕ → ℕ → Instr → Option Opcode → List ℕ
-spelled places at i None = []
-spelled places at i (Some o) = front_bytes i o ++ operand_bytes places (at + length (front_bytes i o)) o.operand i.operand
+spelled offsets at i None = []
+spelled offsets at i (Some o) = front_bytes i o ++ operand_bytes offsets (at + length (front_bytes i o)) o.operand i.operand
 
 -- the bytes of an instruction at an offset
 unfoldable pub instr_bytes : List ℕ → ℕ → Instr → List ℕ
-instr_bytes places at i = spelled places at i (spelling_of i.op i.operand)
+instr_bytes offsets at i = spelled offsets at i (spelling_of i.op i.operand)
 
 -- how many they are, wherever the instructions begin
 abbrev pub instr_size : Instr → ℕ
@@ -157,8 +108,8 @@ AreShortest =
 -- ---- the code
 
 abbrev pub code_from : List ℕ → ℕ → List Instr → List ℕ
-code_from places at [] = []
-code_from places at (i ∷ is) = instr_bytes places at i ++ code_from places (at + length (instr_bytes places at i)) is
+code_from offsets at [] = []
+code_from offsets at (i ∷ is) = instr_bytes offsets at i ++ code_from offsets (at + length (instr_bytes offsets at i)) is
 
 -- where the instructions begin
 abbrev pub begins : ℕ → List Instr → List ℕ
@@ -178,9 +129,9 @@ abbrev pub cases_in : Operand → ℕ
 cases_in (Targets ks) = length ks
 cases_in operand = 0
 
-abbrev pub counted : List Instr → ℕ
-counted [] = 0
-counted (i ∷ is) = 1 + cases_in i.operand + counted is
+abbrev pub weight : List Instr → ℕ
+weight [] = 0
+weight (i ∷ is) = 1 + cases_in i.operand + weight is
 
 abbrev pub instr_limit : ℕ
 instr_limit = 2 ^ 22
@@ -197,7 +148,7 @@ is_empty (x ∷ xs) = false
 
 -- whether a tiny header says all of a body whose code has so many bytes
 abbrev pub fits_tiny : Body → ℕ → Bool
-fits_tiny body size = (body.max_stack == 8) && (nat_lt size 64 && (not body.init && (is_absent body.locals && is_empty body.regions)))
+fits_tiny body size = (body.max_stack == 8) && (nat_lt size 64 && (not body.init && (is_none body.locals && is_empty body.regions)))
 
 -- flags and the header's size in words, the stack, the code's size and the token of the locals
 abbrev pub fat_header : Body → ℕ → List ℕ
@@ -216,14 +167,14 @@ flags_of Finally = 2
 flags_of Fault = 4
 
 abbrev pub last_of : List ℕ → RegionKind → ℕ
-last_of places (Catch token) = token_number token
-last_of places (Filter k) = get_or places k 0
-last_of places Finally = 0
-last_of places Fault = 0
+last_of offsets (Catch token) = token_number token
+last_of offsets (Filter k) = get_or offsets k 0
+last_of offsets Finally = 0
+last_of offsets Fault = 0
 
--- the clause of a region, where the instructions begin, and the last one ends, at these places
+-- the clause of a region, where the instructions begin, and the last one ends, at these offsets
 abbrev pub clause_of : List ℕ → Region → RawClause
-clause_of places r = record { flags = flags_of r.kind; try_from = get_or places r.try_from 0; try_size = get_or places r.try_to 0 - get_or places r.try_from 0; handler_from = get_or places r.handler_from 0; handler_size = get_or places r.handler_to 0 - get_or places r.handler_from 0; last = last_of places r.kind }
+clause_of offsets r = record { flags = flags_of r.kind; try_from = get_or offsets r.try_from 0; try_size = get_or offsets r.try_to 0 - get_or offsets r.try_from 0; handler_from = get_or offsets r.handler_from 0; handler_size = get_or offsets r.handler_to 0 - get_or offsets r.handler_from 0; last = last_of offsets r.kind }
 
 abbrev pub clause_bytes : RawClause → List ℕ
 clause_bytes c =
@@ -261,60 +212,3 @@ without_arguments i = record i { under = None }
 -- the body with its instructions where they are written
 abbrev pub as_encoded : Body → Body
 as_encoded body = record body { instrs = map without_arguments body.instrs; offsets = begins 0 body.instrs }
-
--- ---- which bodies have bytes
-
-abbrev pub IsSmallToken : Token → Type 0
-IsSmallToken token = (token.table < 2 ^ 8) × (token.row < 2 ^ 24)
-
-abbrev pub AllBelow : ℕ → List ℕ → Type 0
-AllBelow count [] = Unit {0}
-AllBelow count (k ∷ ks) = (k < count) × AllBelow count ks
-
--- targets are places of one of so many instructions, and tokens are of the assembly a
-abbrev pub IsValidOperand : ℕ → ℕ → Operand → Type 0
-IsValidOperand a count Nothing = Unit {0}
-IsValidOperand a count (Int z) = Unit {0}
-IsValidOperand a count (Index k) = Unit {0}
-IsValidOperand a count (Target k) = k < count
-IsValidOperand a count (Targets ks) = AllBelow count ks
-IsValidOperand a count (Tok assembly token) = (assembly ≡ a) × IsSmallToken token
-
-pub record IsValidInstr (a count : ℕ) (i : Instr) : Type 0 where
-  pub spelled : IsTrue (is_some (spelling_of i.op i.operand))
-  pub operand : IsValidOperand a count i.operand
-  pub constrained : IfSome i.constrained IsSmallToken
-  pub prefixes : i.prefixes < 8
-
-abbrev pub AllValid : ℕ → ℕ → List Instr → Type 0
-AllValid a count [] = Unit {0}
-AllValid a count (i ∷ is) = IsValidInstr a count i × AllValid a count is
-
-abbrev pub IsValidKind : ℕ → RegionKind → Type 0
-IsValidKind count (Catch token) = IsSmallToken token
-IsValidKind count (Filter k) = k < count
-IsValidKind count Finally = Unit {0}
-IsValidKind count Fault = Unit {0}
-
--- Each part begins at an instruction, and ends behind one or with the code, and not before it begins.
-pub record IsValidRegion (count : ℕ) (r : Region) : Type 0 where
-  pub kind : IsValidKind count r.kind
-  pub tried : r.try_from < count
-  pub tried_end : r.try_to ≤ count
-  pub tried_order : r.try_from ≤ r.try_to
-  pub handler : r.handler_from < count
-  pub handler_end : r.handler_to ≤ count
-  pub handler_order : r.handler_from ≤ r.handler_to
-
-abbrev pub AllValidRegions : ℕ → List Region → Type 0
-AllValidRegions count [] = Unit {0}
-AllValidRegions count (r ∷ rs) = IsValidRegion count r × AllValidRegions count rs
-
--- The body can be written, with tokens of the assembly a.
-pub record IsValid (a : ℕ) (body : Body) : Type 0 where
-  pub instrs : AllValid a (length body.instrs) body.instrs
-  pub regions : AllValidRegions (length body.instrs) body.regions
-  pub locals : IfSome body.locals IsSmallToken
-
-abbrev pub AreBytes : List ℕ → Type 0
-AreBytes bytes = (k : ℕ) → get_or bytes k 0 < 256

@@ -1,10 +1,12 @@
 // Which spelling an instruction has, and how many bytes it takes.
 ghost use Rattle.std.specs.Prelude.{◌≡◌, ◌<◌, ◌≤◌, ◌+◌, ◌*◌, ◌^◌, ℕ, length, [], IfSome, IsTrue};
 ghost use Rattle.cil_model.specs.BodyLayout.{bit};
-ghost use Rattle.il_body.specs.BodyEncoding.{AreShortest, takes, takes_int, takes_index, takes_token, spelling_of, code_bytes, flag_bytes, constrained_bytes, front_bytes, operand_bytes, int_bytes, index_bytes, instr_size, cases_in};
+ghost use Rattle.cil_model.specs.ValidBody.{takes, takes_int, takes_index, takes_token, spelling_of};
+ghost use Rattle.il_body.specs.BodyEncoding.{AreShortest, code_bytes, flag_bytes, constrained_bytes, front_bytes, operand_bytes, int_bytes, index_bytes, instr_size, cases_in};
 
 use cil_base::Token;
-use cil_model::{Instr, Opcode, Operand, OperandKind, opcodes};
+use cil_model::{Instr, Operand};
+use il_opcodes::{Opcode, OperandKind, opcodes};
 
 fn int_fits(kind: OperandKind, z: i64) -> bool
     ensures { result ≡ takes_int kind z }

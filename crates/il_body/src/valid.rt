@@ -2,7 +2,7 @@
 ghost use Rattle.std.specs.Prelude.{ℕ, List, ◌<◌, ◌^◌, IfSome};
 ghost use Rattle.cil_model.specs.declared.body.Body.{Body};
 ghost use Rattle.cil_model.specs.BodyOf.{StandsFor};
-ghost use Rattle.il_body.specs.BodyEncoding.{AreBytes, IsValid};
+ghost use Rattle.cil_model.specs.ValidBody.{AreBytes, IsValid};
 
 /// A body that bytes stand for is as `encode_body` asks. `decode_body` says the row of its locals.
 pub fn read_is_valid()

@@ -13,16 +13,18 @@ use Rattle.cil_model.specs.declared.body.Region.{Region}
 use Rattle.cil_model.specs.declared.body.Body.{Body}
 use Rattle.cil_model.specs.declared.layout.Layout.{Layout}
 use Rattle.cil_model.specs.declared.layout.RawClause.{RawClause}
+use Rattle.cil_model.specs.BodyCode.{instr_at}
 use Rattle.cil_model.specs.BodyLayout.{layout_of, code_of}
-use Rattle.cil_model.specs.BodyOf.{BodyFault, CodeFault, IsBody, IsFault, IsSame, StandsFor, TargetFault, mapped, placed, region_of, target_fault}
+use Rattle.cil_model.specs.BodyOf.{BodyFault, CodeFault, IsBody, IsFault, IsSame, StandsFor, TargetFault, map_all, with_indexes, region_of, target_fault}
 use Rattle.il_code.proofs.MappedLaws.{none_missing}
+use Rattle.il_code.proofs.InstrLaws.{none_read}
 use Rattle.il_code.proofs.ReadLaws.{never_broken, read_once, fault_once}
 
-pub branch_fault : (place : Place) (offsets : List ℕ) (size : ℕ) (clauses : List RawClause) (raw : List Instr) (regions : List Region) (k : ℕ) → mapped (region_of offsets size) clauses ≡ Some regions → position (λ (i : Instr). is_none (placed offsets i)) raw ≡ Some k → target_fault place offsets size clauses raw ≡ Some (refusal I3 place (get_or offsets k 0))
+pub branch_fault : (place : Place) (offsets : List ℕ) (size : ℕ) (clauses : List RawClause) (raw : List Instr) (regions : List Region) (k : ℕ) → map_all (region_of offsets size) clauses ≡ Some regions → position (λ (i : Instr). is_none (with_indexes offsets i)) raw ≡ Some k → target_fault place offsets size clauses raw ≡ Some (refusal I3 place (get_or offsets k 0))
 branch_fault place offsets size clauses raw regions k h p = rw (h, p) refl
 
-no_fault : (place : Place) (offsets : List ℕ) (size : ℕ) (clauses : List RawClause) (raw is : List Instr) (regions : List Region) → mapped (region_of offsets size) clauses ≡ Some regions → mapped (placed offsets) raw ≡ Some is → target_fault place offsets size clauses raw ≡ None
-no_fault place offsets size clauses raw is regions h p = rw (h, none_missing (placed offsets) raw is p) refl
+no_fault : (place : Place) (offsets : List ℕ) (size : ℕ) (clauses : List RawClause) (raw is : List Instr) (regions : List Region) → map_all (region_of offsets size) clauses ≡ Some regions → map_all (with_indexes offsets) raw ≡ Some is → target_fault place offsets size clauses raw ≡ None
+no_fault place offsets size clauses raw is regions h p = rw (h, none_missing (with_indexes offsets) raw is p) refl
 
 some_is : {X : Type 0} (x y : X) (o : Option X) → o ≡ Some x → o ≡ Some y → x ≡ y
 some_is x y o h k = let e : let q : Option _ = Some x in q ≡ Some y = sym h ∙ k in cc
@@ -33,9 +35,9 @@ some_is_not x o h k = let e : let q : Option _ = Some x in q ≡ None = sym h �
 -- Code that stands for a body breaks no rule.
 code_sound : (place : Place) (layout : Layout) (code : List ℕ) (body : Body) (r : Refusal) → IsBody place.assembly layout code body → IsFault place layout code r → ⊥
 code_sound place layout code body r b (inl f) =
-    never_broken place.assembly 0 code b.raw f.before body.offsets f.offsets layout.header.code_size f.at f.rest f.rule b.reads f.reads f.more f.broken
+    never_broken (instr_at place.assembly) (none_read place.assembly) 0 code b.raw f.before body.offsets f.offsets layout.header.code_size f.at f.rest f.rule b.reads f.reads f.more f.broken
 code_sound place layout code body r b (inr f) =
-    let e = read_once place.assembly 0 code b.raw f.raw body.offsets f.offsets layout.header.code_size layout.header.code_size b.reads f.reads in
+    let e = read_once (instr_at place.assembly) (none_read place.assembly) 0 code b.raw f.raw body.offsets f.offsets layout.header.code_size layout.header.code_size b.reads f.reads in
     let none = no_fault place body.offsets layout.header.code_size layout.clauses b.raw body.instrs body.regions b.regions b.instrs in
     some_is_not r (target_fault place f.offsets layout.header.code_size layout.clauses f.raw) f.first (rw (e.0, e.1) none)
 
@@ -47,13 +49,13 @@ sound place bytes body len r s f =
 -- The code stands for no other body.
 code_once : (a : ℕ) (layout : Layout) (code : List ℕ) (x y : Body) → IsBody a layout code x → IsBody a layout code y → IsSame y x
 code_once a layout code x y b c =
-    let e = read_once a 0 code b.raw c.raw x.offsets y.offsets layout.header.code_size layout.header.code_size b.reads c.reads in
-    let is : mapped (placed x.offsets) b.raw ≡ Some y.instrs = rw (← e.0, ← e.1) c.instrs in
-    let rs : mapped (region_of x.offsets layout.header.code_size) layout.clauses ≡ Some y.regions = rw (← e.1) c.regions in
+    let e = read_once (instr_at a) (none_read a) 0 code b.raw c.raw x.offsets y.offsets layout.header.code_size layout.header.code_size b.reads c.reads in
+    let is : map_all (with_indexes x.offsets) b.raw ≡ Some y.instrs = rw (← e.0, ← e.1) c.instrs in
+    let rs : map_all (region_of x.offsets layout.header.code_size) layout.clauses ≡ Some y.regions = rw (← e.1) c.regions in
     record {
       offsets = e.1;
-      instrs = some_is y.instrs x.instrs (mapped (placed x.offsets) b.raw) is b.instrs;
-      regions = some_is y.regions x.regions (mapped (region_of x.offsets layout.header.code_size) layout.clauses) rs b.regions;
+      instrs = some_is y.instrs x.instrs (map_all (with_indexes x.offsets) b.raw) is b.instrs;
+      regions = some_is y.regions x.regions (map_all (region_of x.offsets layout.header.code_size) layout.clauses) rs b.regions;
       locals = c.locals ∙ sym b.locals;
       max_stack = c.max_stack ∙ sym b.max_stack;
       init = c.init ∙ sym b.init;
@@ -67,14 +69,14 @@ once a bytes x y len other s t =
 -- The code has one first fault.
 code_fault_once : (place : Place) (layout : Layout) (code : List ℕ) (r s : Refusal) → IsFault place layout code r → IsFault place layout code s → s ≡ r
 code_fault_once place layout code r s (inl f) (inl g) =
-    let e = fault_once place.assembly 0 code f.before g.before f.offsets g.offsets f.at g.at f.rest g.rest f.rule g.rule f.reads f.broken g.reads g.broken in
+    let e = fault_once (instr_at place.assembly) (none_read place.assembly) 0 code f.before g.before f.offsets g.offsets f.at g.at f.rest g.rest f.rule g.rule f.reads f.broken g.reads g.broken in
     g.is ∙ rw (e.0, e.1) (sym f.is)
 code_fault_once place layout code r s (inl f) (inr g) =
-    absurd (never_broken place.assembly 0 code g.raw f.before g.offsets f.offsets layout.header.code_size f.at f.rest f.rule g.reads f.reads f.more f.broken)
+    absurd (never_broken (instr_at place.assembly) (none_read place.assembly) 0 code g.raw f.before g.offsets f.offsets layout.header.code_size f.at f.rest f.rule g.reads f.reads f.more f.broken)
 code_fault_once place layout code r s (inr f) (inl g) =
-    absurd (never_broken place.assembly 0 code f.raw g.before f.offsets g.offsets layout.header.code_size g.at g.rest g.rule f.reads g.reads g.more g.broken)
+    absurd (never_broken (instr_at place.assembly) (none_read place.assembly) 0 code f.raw g.before f.offsets g.offsets layout.header.code_size g.at g.rest g.rule f.reads g.reads g.more g.broken)
 code_fault_once place layout code r s (inr f) (inr g) =
-    let e = read_once place.assembly 0 code f.raw g.raw f.offsets g.offsets layout.header.code_size layout.header.code_size f.reads g.reads in
+    let e = read_once (instr_at place.assembly) (none_read place.assembly) 0 code f.raw g.raw f.offsets g.offsets layout.header.code_size layout.header.code_size f.reads g.reads in
     let first : target_fault place f.offsets layout.header.code_size layout.clauses f.raw ≡ Some s = rw (← e.0, ← e.1) g.first in
     some_is s r (target_fault place f.offsets layout.header.code_size layout.clauses f.raw) first f.first
 

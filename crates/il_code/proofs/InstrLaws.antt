@@ -9,10 +9,11 @@ use Rattle.cil_base.specs.declared.rule.Rule.{Rule}
 use Rattle.cil_base.specs.declared.rule.Rule.TheVariants.{I1, I2}
 use Rattle.cil_base.specs.Numbers.{num_at}
 use Rattle.cil_base.specs.Tokens.{token_of}
-use Rattle.cil_model.specs.declared.opcode.Opcode.{Opcode}
-use Rattle.cil_model.specs.declared.opcode.OperandKind.{OperandKind}
-use Rattle.cil_model.specs.declared.opcode.OperandKind.TheVariants as op
-use Rattle.cil_model.specs.SmallCode.{Reading}
+use Rattle.il_opcodes.specs.declared.opcode.Opcode.{Opcode}
+use Rattle.il_opcodes.specs.declared.opcode.OperandKind.{OperandKind}
+use Rattle.il_opcodes.specs.declared.opcode.OperandKind.TheVariants as op
+use Rattle.cil_model.specs.declared.body.Instr.{Instr}
+use Rattle.cil_model.specs.BodyCode.{Reading}
 use Rattle.cil_model.specs.BodyCode.{opcode_at, prefixed, instr_at, behind, behind_code, with_operand, operand_at, with_type}
 
 pub no_more : (xs : List ℕ) → length xs ≡ 0 → xs ≡ []
@@ -76,3 +77,8 @@ if_ok P Q f (Err e) h = tt
 
 pub number_room : (bytes : List ℕ) (v : ℕ) → num_at bytes 0 4 ≡ Some v → 4 ≤ length bytes
 number_room bytes v h = grind (arith, common_steps)
+
+-- nothing is read of no bytes
+pub none_read : (a at : ℕ) (i : Instr) (n : ℕ) → instr_at a at [] ≡ Ok (i, n) → ⊥
+unfolding prefixed
+none_read a at i n h = absurd cc

@@ -4,10 +4,10 @@ ghost use Rattle.cil_model.specs.BodyCode.{code_at, instr_at, opcode_at, operand
 ghost use Rattle.il_code.specs.Answers.{Gives};
 ghost use Rattle.il_code.specs.declared.instr.ReadFault.TheVariants.{Memory};
 
-use crate::numbers::bytes_from;
 use crate::operand::read_operand;
-use cil_base::{Rule, Token, read_u32_at};
-use cil_model::{Instr, Opcode, OperandKind, find_opcode};
+use cil_base::{Rule, Token, bytes_from, read_u32_at};
+use cil_model::Instr;
+use il_opcodes::{Opcode, OperandKind, find_opcode};
 use std::alloc::{AllocError, Global};
 
 /// Why there is no instruction.
@@ -26,7 +26,7 @@ impl From<AllocError> for ReadFault {
 }
 
 /// The code at the front, and how many bytes it takes; None where it is cut.
-fn read_code(bytes: &[u8]) -> Option<(u16, usize)>
+pub(crate) fn read_code_of(bytes: &[u8]) -> Option<(u16, usize)>
     ensures value { result ≡ code_at bytes.now }
     ensures within { IfSome result (λ x. (0 < x.1) × (x.1 ≤ length bytes.now)) }
 {
@@ -43,7 +43,7 @@ fn read_opcode(bytes: &[u8]) -> Result<(Opcode, usize), Rule>
     ensures value { result ≡ opcode_at bytes.now }
     ensures within { IfOk result (λ x. (0 < x.1) × (x.1 ≤ length bytes.now)) }
 {
-    let Some((code, n)) = read_code(bytes) else {
+    let Some((code, n)) = read_code_of(bytes) else {
         return Err(Rule::I2);
     };
     match find_opcode(code) {

@@ -1,8 +1,8 @@
 //! Bodies from bytes: headers, code and exception sections.
 #![tactic(auto)]
 
+mod code;
 mod decode;
-mod first;
 mod header;
 mod instr;
 mod layout;
@@ -13,7 +13,7 @@ mod sections;
 mod small;
 mod targets;
 
+pub use code::calls_requires;
 pub use decode::decode_body;
-pub use first::calls_requires;
 pub use layout::body_len;
 pub use small::decode_small;

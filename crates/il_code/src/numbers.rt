@@ -1,18 +1,10 @@
-// Numbers at places that are known to be there.
+// Numbers that are known to be within the bytes.
 #![tactic(auto, unfolding(cil_base::specs::Numbers::num))]
 
-ghost use Rattle.std.specs.Prelude.{◌≡◌, ◌+◌, ◌≤◌, length, drop};
+ghost use Rattle.std.specs.Prelude.{◌≡◌, ◌+◌, ◌≤◌, length};
 ghost use Rattle.cil_base.specs.Numbers.{num};
 
 use byteorder::{ByteOrder, LittleEndian};
-
-/// The bytes from a place on.
-pub(crate) fn bytes_from(bytes: &[u8], from: usize) -> &[u8]
-    requires { from ≤ length bytes.now }
-    ensures { result.now ≡ drop from bytes.now }
-{
-    &bytes[from..]
-}
 
 pub(crate) fn one_in(bytes: &[u8], at: usize) -> u8
     requires { at + 1 ≤ length bytes.now }

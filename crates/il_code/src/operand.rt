@@ -2,13 +2,14 @@
 ghost use Rattle.std.specs.Prelude.{◌≡◌, ◌+◌, ◌-◌, ◌*◌, ◌<◌, ◌≤◌, ◌^◌, ℕ, length, drop, slice_get, Option, Some, None, IfOk, IfSome};
 ghost use Rattle.cil_base.specs.Numbers.{num, num_at};
 ghost use Rattle.cil_base.specs.Tokens.{token_of};
-ghost use Rattle.cil_model.specs.BodyCode.{cases, landing, operand_at, switch_of, token_at, widened, with_number};
+ghost use Rattle.cil_model.specs.BodyCode.{cases, landing, operand_at, switch_of, token_at, sign_extend, with_number};
 ghost use Rattle.cil_model.specs.declared.body.Operand.TheVariants.{Int, Index, Target};
 ghost use Rattle.std.specs.Int.{w8, w32, w64, cast_signed};
 
 use crate::numbers::{eight_in, four_in};
 use cil_base::{Token, U32s, read_u16_at, read_u32_at};
-use cil_model::{Operand, OperandKind};
+use cil_model::Operand;
+use il_opcodes::OperandKind;
 use std::alloc::{AllocError, Global};
 
 /// The offset so far behind the end of an instruction.
@@ -20,7 +21,7 @@ fn land(end: u64, v: u32) -> u32
 }
 
 fn widen(b: u8) -> u32
-    ensures { result ≡ widened b }
+    ensures { result ≡ sign_extend b }
 {
     if b < 0x80 {
         b as u32
@@ -108,7 +109,7 @@ fn index16_at(bytes: &[u8]) -> Option<(Operand, usize)>
 
 fn target8_at(at: u64, bytes: &[u8]) -> Option<(Operand, usize)>
     requires { at < 2 ^ 32 }
-    ensures value { result ≡ with_number (λ v. Target (landing (at + 1) (widened v))) 1 (slice_get bytes.now 0) }
+    ensures value { result ≡ with_number (λ v. Target (landing (at + 1) (sign_extend v))) 1 (slice_get bytes.now 0) }
     ensures within { IfSome result (λ x. x.1 ≤ length bytes.now) }
 {
     let b = byte_of(bytes)?;

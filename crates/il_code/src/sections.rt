@@ -32,7 +32,7 @@ fn is_sized(fat: bool, size: usize) -> bool
     size >= 4 && (size - 4) % width_of(fat) == 0 && (fat || size < 0x100)
 }
 
-/// The section at a place; None where it isn't whole or has other bits.
+/// The section at an offset; None where it isn't whole or has other bits.
 fn read_section(bytes: &[u8], at: usize) -> Option<Section>
     requires { length bytes.now < 2 ^ 32 }
     ensures value { result ≡ section_at bytes.now at }
@@ -82,7 +82,7 @@ fn read_big(bytes: &[u8], at: usize) -> RawClause
     }
 }
 
-/// The clause at a place.
+/// The clause at an offset.
 fn read_clause(fat: bool, bytes: &[u8], at: usize) -> RawClause
     requires { at + width fat ≤ length bytes.now }
     ensures { result ≡ clause_at fat bytes.now at }
@@ -116,7 +116,7 @@ fn all_known(bytes: &[u8], section: Section) -> bool
     true
 }
 
-/// Where the last section behind a place ends; None where one isn't whole or has other bits.
+/// Where the last section behind an offset ends; None where one isn't whole or has other bits.
 pub(crate) fn sections_end(bytes: &[u8], from: usize) -> Option<u32>
     requires small { length bytes.now < 2 ^ 32 }
     requires inside { from ≤ length bytes.now }
@@ -151,7 +151,7 @@ fn push_clauses(out: &mut RawClauses, bytes: &[u8], section: Section) -> Result<
     Ok(())
 }
 
-/// The clauses of the sections behind a place, and where the last one ends; None where a section
+/// The clauses of the sections behind an offset, and where the last one ends; None where a section
 /// isn't whole or has other bits.
 pub(crate) fn read_sections(
     alloc: Global,

@@ -1,16 +1,16 @@
-// Places for offsets.
+// Indexes of instructions for offsets.
 ghost use Rattle.std.specs.Prelude.{◌≡◌, ◌<◌, ◌≤◌, ◌^◌, ◌+◌, ◌++◌, ◌∷◌, [], length, drop, take, Some, None, true, false, MatchOption, IfSome, position, is_none};
-ghost use Rattle.cil_model.specs.BodyOf.{mapped, place_of, placed};
+ghost use Rattle.cil_model.specs.BodyOf.{map_all, index_of, with_indexes};
 ghost use Rattle.il_code.specs.Answers.{Rise};
 
 use cil_base::U32s;
 use cil_model::{Instr, Operand};
 
-/// The place of the instruction at an offset.
-pub(crate) fn place_in(offsets: &[u32], at: u64) -> Option<u32>
+/// The index of the instruction at an offset.
+pub(crate) fn index_in(offsets: &[u32], at: u64) -> Option<u32>
     requires rise { Rise offsets.now }
     requires few { length offsets.now < 2 ^ 32 }
-    ensures { result ≡ place_of offsets.now at }
+    ensures { result ≡ index_of offsets.now at }
 {
     if at > 0xFFFF_FFFF {
         return None;
@@ -22,12 +22,12 @@ pub(crate) fn place_in(offsets: &[u32], at: u64) -> Option<u32>
 }
 
 /// The same for the end of a region, which may be the code's end.
-pub(crate) fn end_in(offsets: &[u32], size: u32, at: u64) -> Option<u32>
+pub(crate) fn end_index_in(offsets: &[u32], size: u32, at: u64) -> Option<u32>
     requires rise { Rise offsets.now }
     requires few { length offsets.now < 2 ^ 32 }
-    ensures { result ≡ place_of (offsets.now ++ size ∷ []) at }
+    ensures { result ≡ index_of (offsets.now ++ size ∷ []) at }
 {
-    match place_in(offsets, at) {
+    match index_in(offsets, at) {
         Some(k) => Some(k),
         None => {
             if at == size as u64 {
@@ -39,34 +39,34 @@ pub(crate) fn end_in(offsets: &[u32], size: u32, at: u64) -> Option<u32>
     }
 }
 
-/// Puts places for the targets of a switch, or answers false where one is no instruction's offset.
+/// Puts indexes for the targets of a switch, or answers false where one is no instruction's offset.
 fn put_cases(offsets: &[u32], targets: &mut U32s) -> bool
     requires rise { Rise offsets.now }
     requires few { length offsets.now < 2 ^ 32 }
-    ensures { MatchOption (mapped (place_of offsets.now) targets.old) (result ≡ false) (λ places. (result ≡ true) × (targets.new ≡ places)) }
+    ensures { MatchOption (map_all (index_of offsets.now) targets.old) (result ≡ false) (λ indexes. (result ≡ true) × (targets.new ≡ indexes)) }
 {
     for k in 0..targets.len() {
         let at = targets.as_slice()[k];
-        let Some(place) = place_in(offsets, at as u64) else {
+        let Some(index) = index_in(offsets, at as u64) else {
             return false;
         };
-        targets.set(k, place);
+        targets.set(k, index);
     }
     true
 }
 
-/// Puts places for an instruction's targets, or answers false where one is no instruction's offset.
-fn put(offsets: &[u32], i: &mut Instr) -> bool
+/// Puts indexes for an instruction's targets, or answers false where one is no instruction's offset.
+fn put_indexes(offsets: &[u32], i: &mut Instr) -> bool
     requires rise { Rise offsets.now }
     requires few { length offsets.now < 2 ^ 32 }
-    ensures { MatchOption (placed offsets.now i.old) (result ≡ false) (λ put. (result ≡ true) × (i.new ≡ put)) }
+    ensures { MatchOption (with_indexes offsets.now i.old) (result ≡ false) (λ j. (result ≡ true) × (i.new ≡ j)) }
 {
     match &mut i.operand {
         Operand::Target(at) => {
-            let Some(place) = place_in(offsets, *at as u64) else {
+            let Some(index) = index_in(offsets, *at as u64) else {
                 return false;
             };
-            *at = place;
+            *at = index;
             true
         }
         Operand::Targets(targets) => put_cases(offsets, targets),
@@ -74,16 +74,16 @@ fn put(offsets: &[u32], i: &mut Instr) -> bool
     }
 }
 
-/// Puts places for all targets, or answers the first instruction with a target that is no
+/// Puts indexes for all targets, or answers the first instruction with a target that is no
 /// instruction's offset.
 pub(crate) fn put_all(offsets: &[u32], instrs: &mut Vec<Instr>) -> Option<usize>
     requires rise { Rise offsets.now }
     requires few { length offsets.now < 2 ^ 32 }
     ensures within { IfSome result (λ k. k < length instrs.old.items) }
-    ensures all { MatchOption result (mapped (placed offsets.now) instrs.old.items ≡ Some instrs.new.items) (λ k. position (λ i. is_none (placed offsets.now i)) instrs.old.items ≡ Some k) }
+    ensures all { MatchOption result (map_all (with_indexes offsets.now) instrs.old.items ≡ Some instrs.new.items) (λ k. position (λ i. is_none (with_indexes offsets.now i)) instrs.old.items ≡ Some k) }
 {
     for (k, i) in instrs.iter_mut().enumerate() {
-        if !put(offsets, i) {
+        if !put_indexes(offsets, i) {
             return Some(k);
         }
     }

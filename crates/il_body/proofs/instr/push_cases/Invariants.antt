@@ -1,6 +1,7 @@
 use Rattle.std.proofs.Common.{◌≡◌, ℕ, ◌≤◌, ◌++◌, length, drop}
-use Rattle.il_body.specs.BodyEncoding.{AllBelow, case_bytes}
+use Rattle.cil_model.specs.ValidBody.{AllBelow}
+use Rattle.il_body.specs.BodyEncoding.{case_bytes}
 use Rattle.il_body.proofs.instr.push_cases.Given as goal
 
 abbrev pub invariant-loop-k : goal.invariant-loop-k
-invariant-loop-k l = (l.out ++ case_bytes l.places l.end (drop l.k-index l.ks) ≡ l.initial.out ++ case_bytes l.places l.end l.ks) × ((count : ℕ) × (count ≤ length l.places) × AllBelow count (drop l.k-index l.ks))
+invariant-loop-k l = (l.out.items ++ case_bytes l.offsets l.end (drop l.k-index l.ks) ≡ l.initial.out.items ++ case_bytes l.offsets l.end l.ks) × ((count : ℕ) × (count ≤ length l.offsets) × AllBelow count (drop l.k-index l.ks))

@@ -4,8 +4,8 @@ use Rattle.cil_base.specs.declared.rule.Rule.TheVariants.{I3}
 use Rattle.cil_base.specs.Refusals.{refusal}
 use Rattle.cil_model.specs.declared.body.Instr.{Instr}
 use Rattle.cil_model.specs.declared.layout.RawClause.{RawClause}
-use Rattle.cil_model.specs.SmallCode.{Reads}
-use Rattle.cil_model.specs.BodyOf.{IsInstr, mapped, placed, region_of, target_fault}
+use Rattle.cil_model.specs.BodyCode.{Reads}
+use Rattle.cil_model.specs.BodyOf.{map_all, with_indexes, region_of, target_fault}
 use Rattle.il_code.proofs.BodyLaws.{branch_fault}
 use Rattle.il_code.proofs.decode.decode_code.Goals as goal
 
@@ -18,13 +18,13 @@ returns-in-Some-put_all-clause-broken c =
     let raw = c.in_ok-instrs.instrs.items in
     let k = c.in-Some-put_all.k in
     let clauses : c.as_slice.result.now ≡ layout.clauses = c.as_slice.ensures in
-    let regions : mapped (region_of offsets size) layout.clauses ≡ Some c.in-Some.regions =
-    sym (rw (c.as_slice-places.ensures, clauses) at c.in_ok-regions.ensures) ∙ c.in-Some.is in
-    let at : position (λ (i : Instr). is_none (placed offsets i)) raw ≡ Some k = rw c.as_slice-places.ensures at c.in-Some-put_all.ensures.all in
+    let regions : map_all (region_of offsets size) layout.clauses ≡ Some c.in-Some.regions =
+    sym (rw (c.as_slice-starts.ensures, clauses) at c.in_ok-regions.ensures) ∙ c.in-Some.is in
+    let at : position (λ (i : Instr). is_none (with_indexes offsets i)) raw ≡ Some k = rw c.as_slice-starts.ensures at c.in-Some-put_all.ensures.all in
     let first = branch_fault c.args.place offsets size layout.clauses raw c.in-Some.regions k regions at in
     inr (record {
       raw = raw;
       offsets = offsets;
       reads = rw (← c.requires.size) c.in_ok-instrs.ensures.read;
-      first = first ∙ ap Some (ap (λ (l : List ℕ). refusal I3 c.args.place (get_or l k 0)) (sym c.as_slice-places.ensures) ∙ sym c.refusal-in-Some-put_all.ensures);
+      first = first ∙ ap Some (ap (λ (l : List ℕ). refusal I3 c.args.place (get_or l k 0)) (sym c.as_slice-starts.ensures) ∙ sym c.refusal-in-Some-put_all.ensures);
     })

@@ -1,33 +1,27 @@
-use Rattle.std.proofs.Common.{◌≡◌, List, ℕ, [], length, Some, None, Option, subst, sym, ◌∙◌, inr}
+use Rattle.std.proofs.Common.{◌≡◌, List, ℕ, Some, refl, sym, ◌∙◌}
 use Rattle.cil_base.proofs.RefusalLaws.{IfRefused-weaker}
-use Rattle.cil_model.specs.SmallCode.{Reads, IsSmallFirst, CodeBreaksIn, tiny_code}
-use Rattle.il_code.proofs.Reading.{never_broken, read_once, first_broken, same_code, no_header}
+use Rattle.cil_model.specs.SmallBody.{tiny_code}
+use Rattle.il_code.proofs.SmallLaws.{small_body, code_few, read_again, no_fault, no_header, first_fault}
 use Rattle.il_code.proofs.small.decode_small.Goals as goal
 
 pub returns-in-Err-clause-refused : goal.returns-in-Err-clause-refused
 returns-in-Err-clause-refused c =
-    let place = c.args.place in
-    let bytes = c.args.bytes.now in
-    let h : tiny_code bytes ≡ Some c.in-Some.code.now = sym c.in-Some.ensures.code in
-    IfRefused-weaker c.in-Err.fault _ _ (λ r b. inr (λ s x. no_header bytes c.in-Some.code.now h x.0, first_broken place bytes c.in-Some.code.now r h b)) c.in-Err.ensures.broken
+    IfRefused-weaker c.in-Err.fault _ _ (λ r f. first_fault c.args.place c.args.bytes.now c.in-Some.code.now r (sym c.in-Some.ensures.code) f) c.in-Err.ensures.broken
 
-pub returns-in-Ok-clause-once : goal.returns-in-Ok-clause-once
-returns-in-Ok-clause-once c other s =
-    let code = c.in-Some.code.now in
-    let a = c.args.place.assembly in
-    let h : tiny_code c.args.bytes.now ≡ Some code = sym c.in-Some.ensures.code in
-    let e : s.code ≡ code = same_code s.code code (sym s.header.header ∙ h) in
-    let reads = subst (λ l. Reads (IsSmallFirst a) 0 l other.instrs other.offsets (length l) []) e s.instrs in
-    read_once a 0 code c.in-Ok.read.0 other.instrs c.in-Ok.read.1 other.offsets (length code) (length code) c.in-Ok.ensures.read reads
+pub returns-clause-few : goal.returns-clause-few
+returns-clause-few c =
+    rw c.from_vec.ensures (code_few c.args.place.assembly c.in-Some.code.now c.in-Ok.read.0.items c.in-Ok.read.1 (c.in-Some.ensures.small c.in-Some.code refl) c.in-Ok.ensures.read)
 
-pub returns-in-Ok-clause-accepted : goal.returns-in-Ok-clause-accepted
-returns-in-Ok-clause-accepted c =
-    let place = c.args.place in
-    let code = c.in-Some.code.now in
-    let h : tiny_code c.args.bytes.now ≡ Some code = sym c.in-Some.ensures.code in (
-      λ r x. no_header c.args.bytes.now code h x.0,
-      λ r b.
-          let e : b.0 ≡ code = same_code b.0 code (sym b.1 ∙ h) in
-          let x : CodeBreaksIn place code r = subst (λ l. CodeBreaksIn place l r) e b.2 in
-          never_broken place.assembly 0 code c.in-Ok.read.0 x.before c.in-Ok.read.1 x.offsets (length code) x.at x.rest x.rule c.in-Ok.ensures.read x.reads x.more x.broken,
-    )
+pub returns-clause-body : goal.returns-clause-body
+returns-clause-body c =
+    rw (c.from_vec.ensures, c.new.ensures) (small_body c.args.place.assembly c.args.bytes.now c.in-Some.code.now c.in-Ok.read.0.items c.in-Ok.read.1 (sym c.in-Some.ensures.code) (c.in-Some.ensures.small c.in-Some.code refl) c.in-Ok.ensures.read)
+
+pub returns-clause-once : goal.returns-clause-once
+returns-clause-once c other s =
+    let again = read_again c.args.place.assembly c.args.bytes.now c.in-Some.code.now c.in-Ok.read.0.items c.in-Ok.read.1 other (sym c.in-Some.ensures.code) c.in-Ok.ensures.read s in
+    (again.0 ∙ sym c.from_vec.ensures, again.1)
+
+pub returns-clause-accepted : goal.returns-clause-accepted
+returns-clause-accepted c =
+    let h : tiny_code c.args.bytes.now ≡ Some c.in-Some.code.now = sym c.in-Some.ensures.code in
+    (λ r x. no_header c.args.bytes.now c.in-Some.code.now h x.0, no_fault c.args.place c.args.bytes.now c.in-Some.code.now c.in-Ok.read.0.items c.in-Ok.read.1 h c.in-Ok.ensures.read)

@@ -1,6 +1,0 @@
-use Rattle.std.proofs.Common.{◌≡◌, ◌+◌, ◌*◌, ◌^◌, ◌≤◌, ◌++◌, drop}
-use Rattle.il_body.specs.BodyEncoding.{counted, starts}
-use Rattle.il_body.proofs.encode.starts_of.Given as goal
-
-abbrev pub invariant-loop-i : goal.invariant-loop-i
-invariant-loop-i l = (l.at + 24 * counted (drop l.i-index l.instrs) ≤ 24 * 2 ^ 22) × (counted (drop l.i-index l.instrs) ≤ 2 ^ 22) × (l.places ++ starts l.at (drop l.i-index l.instrs) ≡ starts 0 l.instrs)
