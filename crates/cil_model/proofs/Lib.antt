@@ -1,3 +1,1 @@
 mod MethodListLaws
-mod PrintLaws
-mod TextLaws

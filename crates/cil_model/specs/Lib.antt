@@ -8,4 +8,3 @@ pub mod NoContracts
 pub mod MethodLists
 pub mod Programs
 pub mod Texts
-pub mod Printed

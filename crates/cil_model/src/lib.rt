@@ -5,10 +5,8 @@ mod body;
 mod contract;
 mod layout;
 mod methods;
-mod print;
 mod program;
 mod run;
-mod text;
 mod tree;
 mod ty;
 mod value;
@@ -21,13 +19,11 @@ pub use contract::{
 };
 pub use layout::{Layout, MethodHeader, RawClause, RawClauses, Section};
 pub use methods::MethodDescs;
-pub use print::{print_item, print_outcome, print_value};
 pub use program::{
     FieldDesc, FieldDescs, Impl, Impls, Kind, Meaning, MethodDesc, Program, Source, Sources,
     TokenRow, TokenRows, TypeDesc, TypeDescs,
 };
 pub use run::{Outcome, Replies, Reply, ReplyResult, RunResult, Trace, TraceItem};
-pub use text::text_of;
 pub use tree::{Block, Blocks, Handler, Handlers, Tree};
 pub use ty::{Ty, Tys, Under};
 pub use value::{Pointer, Value, Values};

@@ -1,5 +1,5 @@
 -- From what a reader of a front gave to what the reader of a blob answers.
-use Rattle.std.proofs.Common.{◌≡◌, ℕ, ◌-◌, List, [], ◌∷◌, length, Result, Ok, Err, refl, sym, subst, arith}
+use Rattle.std.proofs.Common.{◌≡◌, ℕ, ◌-◌, List, [], ◌∷◌, length, Result, Ok, Err, refl, sym, ap, subst, arith}
 use Rattle.std.specs.Prelude.{IfOk}
 use Rattle.cil_base.specs.declared.rule.Rule.{Rule}
 use Rattle.cil_base.specs.declared.refusal.Place.{Place}
@@ -8,8 +8,8 @@ use Rattle.cil_base.specs.Refusals.{OnRefused}
 use Rattle.cli_sigs.specs.declared.numbers.Stop.{Stop}
 use Rattle.cli_sigs.specs.declared.numbers.Stop.TheVariants as stop
 use Rattle.cli_sigs.specs.Read.{Reader}
-use Rattle.cli_sigs.specs.Reading.{Stops, Gives}
-use Rattle.cli_sigs.specs.Answers.{GivesOnly, AtLongest, Ends, EndsStopped, Concludes, StopsWithin, Within}
+use Rattle.cli_sigs.specs.Reading.{Stops, Gives, ended}
+use Rattle.cli_sigs.specs.Answers.{GivesOnly, Reads, AtLongest, Ends, EndsStopped, Concludes, StopsWithin, Within}
 use Rattle.cli_sigs.proofs.Readers.{IsReader}
 use Rattle.cli_sigs.proofs.Longest.{rest_le, stop_le, none_at_stop, longest_at_stop, longest_before, none_before, found_all, only_one}
 
@@ -66,3 +66,18 @@ module _ {X A : Type 0} (G : List ℕ → A → Type 0) (r : Reader A) (h : IsRe
   pub answers_refused : (rule : Rule) (place : Place) (read : Result X Stop) (result : Result A Fault) → Gives view read (r blob) → Concludes view rule place blob read result → OnRefused result (AtLongest rule place G blob)
   answers_refused rule place (Ok x) result e c = refused_ends rule place (view x).0 (view x).1 result e c
   answers_refused rule place (Err s) result e c = refused_stopped rule place s result e c
+
+-- ---- the answer is what the reader of a front gives where nothing is left
+
+module _ {X A : Type 0} (r : Reader A) (view : X → A × List ℕ) (blob : List ℕ) where
+  read_ends : (rule : Rule) (place : Place) (v : A) (rest : List ℕ) (result : Result A Fault) → r blob ≡ Ok (v, rest) → Ends rule place blob v rest result → Reads result (ended (r blob))
+  read_ends rule place v [] result e c = subst (λ (a : Result A Fault). Reads a (ended (r blob))) (sym c) (ap ended e)
+  read_ends rule place v (b ∷ rest) result e c = subst (λ (a : Result A Fault). Reads a (ended (r blob))) (sym c) (ap ended e)
+
+  read_stopped : (rule : Rule) (place : Place) (s : Stop) (result : Result A Fault) → Stops s (r blob) → EndsStopped rule place blob s result → Reads result (ended (r blob))
+  read_stopped rule place (stop.At n) result e c = subst (λ (a : Result A Fault). Reads a (ended (r blob))) (sym c) (ap ended e)
+  read_stopped rule place (stop.Memory e) result s c = subst (λ (a : Result A Fault). Reads a (ended (r blob))) (sym c) tt
+
+  pub answers_read : (rule : Rule) (place : Place) (read : Result X Stop) (result : Result A Fault) → Gives view read (r blob) → Concludes view rule place blob read result → Reads result (ended (r blob))
+  answers_read rule place (Ok x) result e c = read_ends rule place (view x).0 (view x).1 result e c
+  answers_read rule place (Err s) result g c = read_stopped rule place s result g c

@@ -7,12 +7,12 @@ use Rattle.cli_sigs.specs.declared.elements.Slot.TheVariants.{Plain, Param}
 use Rattle.cli_sigs.specs.declared.types.SigTy.{SigTy}
 use Rattle.cli_sigs.specs.declared.types.SigTy.TheVariants as ty
 use Rattle.cli_sigs.specs.Elements.{is_prim, element_of, may_stand, element_in, is_leaf}
-use Rattle.cli_sigs.specs.Numbers.{IsPacked}
-use Rattle.cli_sigs.specs.Grammar.{Counted, method, named_byte, Layer, prim, ptr, by_ref, named, var, mvar, array, inst, func, sz_array, modified, pinned, IsType}
+use Rattle.cli_sigs.specs.Numbers.{IsPacked, IsCoded}
+use Rattle.cli_sigs.specs.Grammar.{Counted, method, named_byte, Layer, prim, ptr, by_ref, named, var, mvar, array, inst, func, sz_array, modified, pinned, IsType, IsTypeBy}
 use Rattle.cli_sigs.specs.Read.{◌>>=◌, byte_as}
 use Rattle.cli_sigs.specs.Reading.{keep_leaf, leaf_in, bare_inst, leaf_after, type_at}
 use Rattle.cli_sigs.proofs.Readers.{IsReader, Avoids, Then, Nothing, IsByteAs, Image, reads-bind, reads-pure, reads-as, reads-maps, same_grammar}
-use Rattle.cli_sigs.proofs.Packed.{reads-packed}
+use Rattle.cli_sigs.proofs.Packed.{reads-packed, reads-coded}
 use Rattle.cli_sigs.proofs.Zeros.{IsZero, reads-zero}
 use Rattle.cli_sigs.proofs.TypeLaws.{Begins_with, begins, is_primitive, Named_byte, named_front, named_back, reads-named, may, reads-layer}
 
@@ -21,15 +21,15 @@ abbrev No : Slot → List ℕ → SigTy → Type 0
 No slot bytes t = ⊥
 
 abbrev Bare : List ℕ → SigTy → Type 0
-Bare = Then Named_byte (λ value. Then IsPacked (λ c. Image (λ (n : ℕ). ty.Inst value c []) IsZero))
+Bare = Then Named_byte (λ value. Then IsCoded (λ c. Image (λ (n : ℕ). ty.Inst value c []) IsZero))
 
 reads-bare : IsReader Bare bare_inst
 unfolding bare_inst
-reads-bare = reads-bind _ _ _ _ reads-named (λ value x y. reads-bind _ _ _ _ reads-packed (λ c x y. reads-maps (λ (n : ℕ). ty.Inst value c []) _ _ reads-zero))
+reads-bare = reads-bind _ _ _ _ reads-named (λ value x y. reads-bind _ _ _ _ reads-coded (λ c x y. reads-maps (λ (n : ℕ). ty.Inst value c []) _ _ reads-zero))
 
 Leaf : Element → List ℕ → SigTy → Type 0
 Leaf (e.Prim b) = Nothing (ty.Prim b)
-Leaf (e.Named value) = Image (λ c. ty.Named value c) IsPacked
+Leaf (e.Named value) = Image (λ c. ty.Named value c) IsCoded
 Leaf e.Var = Image ty.Var IsPacked
 Leaf e.MVar = Image ty.MVar IsPacked
 Leaf _ = Bare
@@ -37,7 +37,7 @@ Leaf _ = Bare
 reads-leaf : (k : Element) → IsReader (Leaf k) (leaf_after k)
 unfolding Leaf leaf_after
 reads-leaf (e.Prim b) = reads-pure (ty.Prim b)
-reads-leaf (e.Named value) = reads-maps (λ c. ty.Named value c) _ _ reads-packed
+reads-leaf (e.Named value) = reads-maps (λ c. ty.Named value c) _ _ reads-coded
 reads-leaf e.Var = reads-maps ty.Var _ _ reads-packed
 reads-leaf e.MVar = reads-maps ty.MVar _ _ reads-packed
 reads-leaf e.Ptr = reads-bare
@@ -134,6 +134,6 @@ avoids zero = record { empty = refl; refuses = λ rest. ap Err (omega arith) }
 avoids (suc d) = record { empty = refl; refuses = λ rest. ap Err (omega arith) }
 
 pub reads-type : (d : ℕ) (slot : Slot) → IsReader (IsType (suc d) slot) (type_at d slot)
-unfolding IsType type_at
+unfolding IsTypeBy type_at
 reads-type zero slot = reads-leaves slot
 reads-type (suc d) slot = reads-layer (IsType (suc d)) (type_at d) (λ s. reads-type d s) (avoids d) slot

@@ -11,3 +11,5 @@ pub mod AttributeLaws
 pub mod PrintLaws
 pub mod ValidLaws
 pub mod CommaLaws
+pub mod NumberLaws
+pub mod SpellingLaws

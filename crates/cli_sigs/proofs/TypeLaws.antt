@@ -11,14 +11,14 @@ use Rattle.cli_sigs.specs.declared.elements.MethodKind.TheVariants.{Method, Poin
 use Rattle.cli_sigs.specs.declared.types.SigTy.{SigTy}
 use Rattle.cli_sigs.specs.declared.types.SigTy.TheVariants as ty
 use Rattle.cli_sigs.specs.declared.types.MethodSig.{MethodSig}
-use Rattle.cli_sigs.specs.Elements.{is_prim, element_of, may_stand, element_in, kept, allows_by_ref, allows_pinned}
-use Rattle.cli_sigs.specs.Methods.{may_begin, returned, is_generic, is_vararg}
-use Rattle.cli_sigs.specs.Numbers.{IsPacked, IsSigned}
+use Rattle.cli_sigs.specs.Elements.{is_prim, element_of, may_stand, element_in, slot_behind, allows_by_ref, allows_pinned}
+use Rattle.cli_sigs.specs.Methods.{may_begin, result_slot, is_generic, is_vararg}
+use Rattle.cli_sigs.specs.Numbers.{IsPacked, IsSigned, IsCoded}
 use Rattle.cli_sigs.specs.Grammar.{Each, Counted, IsGenerics, IsParams, all_fixed, some_extra, method_of, IsMethod, method, named_byte, modifier_byte, Layer, prim, ptr, by_ref, named, var, mvar, array, inst, func, sz_array, modified, pinned}
 use Rattle.cli_sigs.specs.Read.{Outcome, Reader, and_then, ◌>>=◌, pure, maps, byte_as, byte_where, many}
 use Rattle.cli_sigs.specs.Reading.{packed, signed, generics_after, open_params, params_after, method_at, named_value, array_of, inst_of, modified_of, type_after}
 use Rattle.cli_sigs.proofs.Readers.{IsReader, Avoids, Then, Nothing, IsByte, IsByteAs, Image, Many, Marked, reads-bind, reads-pure, reads-byte, reads-as, reads-maps, reads-many, reads-marked, same_grammar}
-use Rattle.cli_sigs.proofs.Packed.{reads-packed, reads-signed, reads-counted}
+use Rattle.cli_sigs.proofs.Packed.{reads-packed, reads-coded, reads-signed, reads-counted}
 
 -- ---- bytes and element types
 
@@ -269,7 +269,7 @@ module _ (Inner : Slot → List ℕ → SigTy → Type 0) (inner : Slot → Read
   Parts = Params (Inner Param) (inner Param) (h Param) avoids
 
   abbrev Method_parts : MethodKind → List ℕ → MethodSig → Type 0
-  Method_parts kind = Then (IsByte (may_begin kind)) (λ f. Then (IsGenerics (is_generic f)) (λ g. Then IsPacked (λ n. Then (Inner (returned kind)) (λ t. Image (λ (p : List SigTy × Option ℕ). method_of f g t p.0 p.1) (Parts (is_vararg f) n)))))
+  Method_parts kind = Then (IsByte (may_begin kind)) (λ f. Then (IsGenerics (is_generic f)) (λ g. Then IsPacked (λ n. Then (Inner (result_slot kind)) (λ t. Image (λ (p : List SigTy × Option ℕ). method_of f g t p.0 p.1) (Parts (is_vararg f) n)))))
 
   to_method : (kind : MethodKind) (bs : List ℕ) (m : MethodSig) → Method_parts kind bs m → IsMethod Inner kind bs m
   unfolding Params
@@ -292,7 +292,7 @@ module _ (Inner : Slot → List ℕ → SigTy → Type 0) (inner : Slot → Read
   pub reads-method : (kind : MethodKind) → IsReader (IsMethod Inner kind) (method_at kind inner)
   unfolding method_at
   reads-method kind = same_grammar (Method_parts kind) (IsMethod Inner kind) _
-      (reads-bind _ _ _ _ (first_byte kind) (λ f x y. reads-bind _ _ _ _ (reads-generics (is_generic f)) (λ g x y. reads-bind _ _ _ _ reads-packed (λ n x y. reads-bind _ _ _ _ (h (returned kind)) (λ t x y.
+      (reads-bind _ _ _ _ (first_byte kind) (λ f x y. reads-bind _ _ _ _ (reads-generics (is_generic f)) (λ g x y. reads-bind _ _ _ _ reads-packed (λ n x y. reads-bind _ _ _ _ (h (result_slot kind)) (λ t x y.
       reads-maps (λ (p : List SigTy × Option ℕ). method_of f g t p.0 p.1) (Parts (is_vararg f) n) (params_after (is_vararg f) (inner Param) n) (reads-params (Inner Param) (inner Param) (h Param) avoids (is_vararg f) n))))))
       (to_method kind) (from_method kind)
 
@@ -303,30 +303,30 @@ module _ (Inner : Slot → List ℕ → SigTy → Type 0) (inner : Slot → Read
     After (e.Prim b) = Nothing (ty.Prim b)
     After e.Ptr = Image ty.Ptr (Inner Pointed)
     After e.ByRef = Image ty.ByRef (Inner Plain)
-    After (e.Named value) = Image (λ c. ty.Named value c) IsPacked
+    After (e.Named value) = Image (λ c. ty.Named value c) IsCoded
     After e.Var = Image ty.Var IsPacked
     After e.MVar = Image ty.MVar IsPacked
     After e.Array = Then (Inner Plain) (λ t. Then IsPacked (λ rank. Then (Counted IsPacked) (λ sizes. Image (λ lows. ty.Array t rank sizes lows) (Counted IsSigned))))
-    After e.Inst = Then Named_byte (λ value. Then IsPacked (λ c. Image (λ args. ty.Inst value c args) (Counted (Inner Plain))))
+    After e.Inst = Then Named_byte (λ value. Then IsCoded (λ c. Image (λ args. ty.Inst value c args) (Counted (Inner Plain))))
     After e.Func = Image ty.Func (IsMethod Inner Pointer)
     After e.SzArray = Image ty.SzArray (Inner Plain)
-    After (e.Modified required) = Then IsPacked (λ c. Image (λ t. ty.Modified required c t) (Inner (kept slot)))
-    After e.Pinned = Image ty.Pinned (Inner (kept slot))
+    After (e.Modified required) = Then IsCoded (λ c. Image (λ t. ty.Modified required c t) (Inner (slot_behind slot)))
+    After e.Pinned = Image ty.Pinned (Inner (slot_behind slot))
 
     reads-after : (k : Element) → IsReader (After k) (type_after inner slot k)
     unfolding After type_after array_of inst_of modified_of
     reads-after (e.Prim b) = reads-pure (ty.Prim b)
     reads-after e.Ptr = reads-maps ty.Ptr _ _ (h Pointed)
     reads-after e.ByRef = reads-maps ty.ByRef _ _ (h Plain)
-    reads-after (e.Named value) = reads-maps (λ c. ty.Named value c) _ _ reads-packed
+    reads-after (e.Named value) = reads-maps (λ c. ty.Named value c) _ _ reads-coded
     reads-after e.Var = reads-maps ty.Var _ _ reads-packed
     reads-after e.MVar = reads-maps ty.MVar _ _ reads-packed
     reads-after e.Array = reads-bind _ _ _ _ (h Plain) (λ t x y. reads-bind _ _ _ _ reads-packed (λ rank x y. reads-bind _ _ _ _ (reads-counted IsPacked packed reads-packed) (λ sizes x y. reads-maps (λ lows. ty.Array t rank sizes lows) _ _ (reads-counted IsSigned signed reads-signed))))
-    reads-after e.Inst = reads-bind _ _ _ _ reads-named (λ value x y. reads-bind _ _ _ _ reads-packed (λ c x y. reads-maps (λ args. ty.Inst value c args) _ _ (reads-counted (Inner Plain) (inner Plain) (h Plain))))
+    reads-after e.Inst = reads-bind _ _ _ _ reads-named (λ value x y. reads-bind _ _ _ _ reads-coded (λ c x y. reads-maps (λ args. ty.Inst value c args) _ _ (reads-counted (Inner Plain) (inner Plain) (h Plain))))
     reads-after e.Func = reads-maps ty.Func _ _ (reads-method Pointer)
     reads-after e.SzArray = reads-maps ty.SzArray _ _ (h Plain)
-    reads-after (e.Modified required) = reads-bind _ _ _ _ reads-packed (λ c x y. reads-maps (λ t. ty.Modified required c t) _ _ (h (kept slot)))
-    reads-after e.Pinned = reads-maps ty.Pinned _ _ (h (kept slot))
+    reads-after (e.Modified required) = reads-bind _ _ _ _ reads-coded (λ c x y. reads-maps (λ t. ty.Modified required c t) _ _ (h (slot_behind slot)))
+    reads-after e.Pinned = reads-maps ty.Pinned _ _ (h (slot_behind slot))
 
     retyped : (bs cs : List ℕ) (v w : SigTy) → Layer Inner slot bs v → bs ≡ cs → v ≡ w → Layer Inner slot cs w
     retyped bs cs v w x e f = subst (λ (l : List ℕ). Layer Inner slot l w) e (subst (λ (t : SigTy). Layer Inner slot bs t) f x)

@@ -14,9 +14,9 @@ use Rattle.cli_sigs.specs.declared.types.SigTy.TheOpen.{SigTy-F}
 use Rattle.cli_sigs.specs.declared.types.SigTy.TheVariants as ty
 use Rattle.cli_sigs.specs.declared.types.MethodSig.{MethodSig, out-roll-MethodSig}
 use Rattle.cli_sigs.specs.declared.types.MethodSig.{MethodSig-F}
-use Rattle.cli_sigs.specs.Methods.{returned, is_generic, is_vararg}
+use Rattle.cli_sigs.specs.Methods.{result_slot, is_generic, is_vararg}
 use Rattle.cli_sigs.specs.Numbers.{IsPacked, IsSigned, unrotated, half_of}
-use Rattle.cli_sigs.specs.Grammar.{Each, Counted, IsGenerics, IsParams, all_fixed, some_extra, IsMethod, method, Layer, prim, ptr, by_ref, named, var, mvar, array, inst, func, sz_array, modified, pinned, IsType}
+use Rattle.cli_sigs.specs.Grammar.{Each, Counted, IsGenerics, IsParams, all_fixed, some_extra, IsMethod, method, Layer, prim, ptr, by_ref, named, var, mvar, array, inst, func, sz_array, modified, pinned, IsType, IsTypeBy}
 use Rattle.cli_sigs.specs.Valid.{IsShort, IsShortSigned, AllCounted, AreGenerics, StandsBefore, IsValidOpenMethod, IsValidMethod, IsValidForm, IsValidType}
 
 -- ---- numbers and lists
@@ -75,28 +75,28 @@ module _ (Inner : Slot → List ℕ → SigTy → Type 0) (Valid : Slot → SigT
       let m : MethodSig-F SigTy MethodSig = record { flags = f; generics = g; result = t; params = ts; sentinel = s } in
       let all = params_valid (is_vararg f) ps ts s pp in
       subst (λ (x : MethodSig-F SigTy MethodSig). IsValidOpenMethod Valid kind x) (sym (out-roll-MethodSig m))
-      (record { begins = fh; generics = generics_valid (is_generic f) gs g gg; result = h (returned kind) rs t it; params = (short ns (length ts) pn, all.0); sentinel = all.1 })
+      (record { begins = fh; generics = generics_valid (is_generic f) gs g gg; result = h (result_slot kind) rs t it; params = (short ns (length ts) pn, all.0); sentinel = all.1 })
 
   layer_valid : (slot : Slot) (bs : List ℕ) (t : SigTy) → Layer Inner slot bs t → IsValidForm Valid slot (out-SigTy t)
   layer_valid slot bs t (prim {b = b} p a) = form_is slot Valid (ty.Prim b) (SigTy-F.Prim b) (ty.rolls-Prim b) (p, a)
   layer_valid slot bs t (ptr {bytes = x} {t = u} g) = form_is slot Valid (ty.Ptr u) (SigTy-F.Ptr u) (ty.rolls-Ptr u) (h _ x u g)
   layer_valid slot bs t (by_ref {bytes = x} {t = u} a g) = form_is slot Valid (ty.ByRef u) (SigTy-F.ByRef u) (ty.rolls-ByRef u) (a, h Plain x u g)
-  layer_valid slot bs t (named {bytes = x} {coded = c} value p) = form_is slot Valid (ty.Named value c) (SigTy-F.Named value c) (ty.rolls-Named value c) (short x c p)
+  layer_valid slot bs t (named {bytes = x} {coded = c} value p) = form_is slot Valid (ty.Named value c) (SigTy-F.Named value c) (ty.rolls-Named value c) (short x c p.0, p.1)
   layer_valid slot bs t (var {bytes = x} {n = n} p) = form_is slot Valid (ty.Var n) (SigTy-F.Var n) (ty.rolls-Var n) (short x n p)
   layer_valid slot bs t (mvar {bytes = x} {n = n} p) = form_is slot Valid (ty.MVar n) (SigTy-F.MVar n) (ty.rolls-MVar n) (short x n p)
   layer_valid slot bs t (array {t = u} {rank = r} sizes lows is rs ss ls g pr cs cl) =
       form_is slot Valid (ty.Array u r sizes lows) (SigTy-F.Array u r sizes lows) (ty.rolls-Array u r sizes lows)
       (h Plain is u g, short rs r pr, counted_valid IsPacked IsShort short ss sizes cs, counted_valid IsSigned IsShortSigned short_signed ls lows cl)
   layer_valid slot bs t (inst {coded = c} value args cs ts p g) =
-      form_is slot Valid (ty.Inst value c args) (SigTy-F.Inst value c args) (ty.rolls-Inst value c args) (short cs c p, counted_valid (Inner Plain) (Valid Plain) (h Plain) ts args g)
+      form_is slot Valid (ty.Inst value c args) (SigTy-F.Inst value c args) (ty.rolls-Inst value c args) ((short cs c p.0, p.1), counted_valid (Inner Plain) (Valid Plain) (h Plain) ts args g)
   layer_valid slot bs t (func {bytes = x} {m = m} g) = form_is slot Valid (ty.Func m) (SigTy-F.Func m) (ty.rolls-Func m) (method_valid Pointer x m g)
   layer_valid slot bs t (sz_array {bytes = x} {t = u} g) = form_is slot Valid (ty.SzArray u) (SigTy-F.SzArray u) (ty.rolls-SzArray u) (h Plain x u g)
   layer_valid slot bs t (modified {coded = c} {t = u} required cs ts p g) =
-      form_is slot Valid (ty.Modified required c u) (SigTy-F.Modified required c u) (ty.rolls-Modified required c u) (short cs c p, h _ ts u g)
+      form_is slot Valid (ty.Modified required c u) (SigTy-F.Modified required c u) (ty.rolls-Modified required c u) ((short cs c p.0, p.1), h _ ts u g)
   layer_valid slot bs t (pinned {bytes = x} {t = u} a g) = form_is slot Valid (ty.Pinned u) (SigTy-F.Pinned u) (ty.rolls-Pinned u) (a, h _ x u g)
 
 pub type_valid : (d : ℕ) (slot : Slot) (bs : List ℕ) (t : SigTy) → IsType d slot bs t → IsValidType d slot t
-unfolding IsType IsValidType
+unfolding IsTypeBy IsValidType
 type_valid zero slot bs t g = absurd g
 type_valid (suc d) slot bs t g = layer_valid (IsType d) (IsValidType d) (type_valid d) slot bs t g
 

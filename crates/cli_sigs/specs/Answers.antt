@@ -1,5 +1,5 @@
 -- What a public reader answers.
-use Rattle.std.specs.Prelude.{◌≡◌, ℕ, ◌-◌, ◌≤◌, List, [], ◌∷◌, length, Result, Ok, Err}
+use Rattle.std.specs.Prelude.{◌≡◌, ℕ, ◌-◌, ◌≤◌, List, [], ◌∷◌, length, Option, Some, None, Result, Ok, Err}
 use Rattle.cil_base.specs.declared.rule.Rule.{Rule}
 use Rattle.cil_base.specs.declared.refusal.Place.{Place}
 use Rattle.cil_base.specs.declared.refusal.Refusal.{Refusal}
@@ -15,6 +15,12 @@ abbrev pub GivesOnly : {X : Type 0} → Result X Fault → X → Type 0
 GivesOnly (Ok x) v = x ≡ v
 GivesOnly (Err (Refused r)) v = ⊥
 GivesOnly (Err (Memory e)) v = Unit {0}
+
+-- the answer is this value, and a refusal where there is none, unless memory ran out
+abbrev pub Reads : {X : Type 0} → Result X Fault → Option X → Type 0
+Reads (Ok x) o = o ≡ Some x
+Reads (Err (Refused r)) o = o ≡ None
+Reads (Err (Memory e)) o = Unit {0}
 
 -- the rule is broken at the length of the longest prefix with which something in the grammar begins
 abbrev pub AtLongest : {A : Type 0} → Rule → Place → (List ℕ → A → Type 0) → List ℕ → Refusal → Type 0

@@ -10,6 +10,10 @@ IsChar bytes b = (bytes ≡ b ∷ []) × (b < 0x100)
 abbrev pub IsTypeAttribute : List ℕ → List ℕ → Type 0
 IsTypeAttribute bytes text = (front : List ℕ) × (bytes ≡ 0x01 ∷ 0x00 ∷ front ++ 0x00 ∷ 0x00 ∷ []) × Counted IsChar front text
 
+-- the bare form: no arguments, and no named values, whose number this is
+abbrev pub IsBareAttribute : List ℕ → ℕ → Type 0
+IsBareAttribute bytes named = (bytes ≡ 0x01 ∷ 0x00 ∷ 0x00 ∷ 0x00 ∷ []) × (named ≡ 0)
+
 -- ---- the text: a type name, and behind a comma an assembly name (Code Contracts manual, ContractClass; ECMA-335, II.23.3)
 
 abbrev pub before_comma : List ℕ → List ℕ

@@ -62,9 +62,9 @@ abbrev pub element_in : Slot → ℕ → Option Element
 element_in slot b = if may_stand slot b then element_of b else None
 
 -- where the type behind a modifier or PINNED stands: TYPEDBYREF can't be a local there
-abbrev pub kept : Slot → Slot
-kept Local = Constrained
-kept slot = slot
+abbrev pub slot_behind : Slot → Slot
+slot_behind Local = Constrained
+slot_behind slot = slot
 
 -- such a type can have no types inside
 abbrev pub is_leaf : Element → Bool

@@ -33,7 +33,7 @@ may_begin Pointer b = with_this is_pointer_call b
 may_begin Property b = is_property b
 
 -- where the result stands: a property is not void
-abbrev pub returned : MethodKind → Slot
-returned Method = Returned
-returned Pointer = Returned
-returned Property = Param
+abbrev pub result_slot : MethodKind → Slot
+result_slot Method = Returned
+result_slot Pointer = Returned
+result_slot Property = Param

@@ -9,8 +9,9 @@ use Rattle.cli_sigs.specs.declared.types.SigTy.{SigTy, out-SigTy}
 use Rattle.cli_sigs.specs.declared.types.SigTy.TheOpen.{SigTy-F}
 use Rattle.cli_sigs.specs.declared.types.MethodSig.{MethodSig, out-MethodSig}
 use Rattle.cli_sigs.specs.declared.types.MethodSig.{MethodSig-F}
-use Rattle.cli_sigs.specs.Elements.{is_prim, may_stand, allows_by_ref, allows_pinned, kept}
-use Rattle.cli_sigs.specs.Methods.{may_begin, returned, is_generic, is_vararg}
+use Rattle.cli_sigs.specs.Elements.{is_prim, may_stand, allows_by_ref, allows_pinned, slot_behind}
+use Rattle.cli_sigs.specs.Methods.{may_begin, result_slot, is_generic, is_vararg}
+use Rattle.cli_sigs.specs.Numbers.{has_table}
 
 -- ---- numbers and lists
 
@@ -18,9 +19,17 @@ use Rattle.cli_sigs.specs.Methods.{may_begin, returned, is_generic, is_vararg}
 abbrev pub IsShort : ℕ → Type 0
 IsShort n = n < 2 ^ 29
 
+-- from -half to half - 1
+abbrev pub Reaches : ℕ → ℤ → Type 0
+Reaches half z = (neg_ℤ (pos half) ≤ℤ z) × (z <ℤ pos half)
+
 -- a signed one too
 abbrev pub IsShortSigned : ℤ → Type 0
-IsShortSigned z = (neg_ℤ (pos 0x10000000) ≤ℤ z) × (z <ℤ pos 0x10000000)
+IsShortSigned z = Reaches 0x10000000 z
+
+-- a coded index has the tag of a table too
+abbrev pub IsShortCoded : ℕ → Type 0
+IsShortCoded coded = IsShort coded × (has_table coded ≡ true)
 
 -- few enough to be counted, and each of them is so
 abbrev pub AllCounted : {A : Type 0} → (A → Type 0) → List A → Type 0
@@ -41,7 +50,7 @@ StandsBefore vararg params (Some k) = (vararg ≡ true) × (k < params)
 pub record IsValidOpenMethod (Inner : Slot → SigTy → Type 0) (kind : MethodKind) (m : MethodSig-F SigTy MethodSig) : Type 0 where
   pub begins : may_begin kind m.flags ≡ true
   pub generics : AreGenerics (is_generic m.flags) m.generics
-  pub result : Inner (returned kind) m.result
+  pub result : Inner (result_slot kind) m.result
   pub params : AllCounted (Inner Param) m.params
   pub sentinel : StandsBefore (is_vararg m.flags) (length m.params) m.sentinel
 
@@ -55,15 +64,15 @@ abbrev pub IsValidForm : (Slot → SigTy → Type 0) → Slot → SigTy-F SigTy 
 IsValidForm Inner slot (SigTy-F.Prim b) = (is_prim b ≡ true) × (may_stand slot b ≡ true)
 IsValidForm Inner slot (SigTy-F.Ptr t) = Inner Pointed t
 IsValidForm Inner slot (SigTy-F.ByRef t) = (allows_by_ref slot ≡ true) × Inner Plain t
-IsValidForm Inner slot (SigTy-F.Named value coded) = IsShort coded
+IsValidForm Inner slot (SigTy-F.Named value coded) = IsShortCoded coded
 IsValidForm Inner slot (SigTy-F.Var n) = IsShort n
 IsValidForm Inner slot (SigTy-F.MVar n) = IsShort n
 IsValidForm Inner slot (SigTy-F.Array t rank sizes lows) = Inner Plain t × IsShort rank × AllCounted IsShort sizes × AllCounted IsShortSigned lows
-IsValidForm Inner slot (SigTy-F.Inst value coded args) = IsShort coded × AllCounted (Inner Plain) args
+IsValidForm Inner slot (SigTy-F.Inst value coded args) = IsShortCoded coded × AllCounted (Inner Plain) args
 IsValidForm Inner slot (SigTy-F.Func m) = IsValidMethod Inner Pointer m
 IsValidForm Inner slot (SigTy-F.SzArray t) = Inner Plain t
-IsValidForm Inner slot (SigTy-F.Modified required coded t) = IsShort coded × Inner (kept slot) t
-IsValidForm Inner slot (SigTy-F.Pinned t) = (allows_pinned slot ≡ true) × Inner (kept slot) t
+IsValidForm Inner slot (SigTy-F.Modified required coded t) = IsShortCoded coded × Inner (slot_behind slot) t
+IsValidForm Inner slot (SigTy-F.Pinned t) = (allows_pinned slot ≡ true) × Inner (slot_behind slot) t
 
 -- a type that is nested at most so deep: one more than the deepest of its parts
 unfoldable pub IsValidType : ℕ → Slot → SigTy → Type 0

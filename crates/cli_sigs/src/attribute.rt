@@ -3,10 +3,10 @@
 ghost use Rattle.std.specs.Prelude.{◌≡◌, ◌<◌, ◌^◌, ℕ, List, length, reverse, IfOk};
 ghost use Rattle.cil_base.specs.Refusals.{OnRefused};
 ghost use Rattle.cli_sigs.specs.Read.{byte_where, many};
-ghost use Rattle.cli_sigs.specs.Reading.{Gives, is_byte, counted, attribute};
+ghost use Rattle.cli_sigs.specs.Reading.{Gives, is_byte, counted, attribute, bare_attribute, ended};
 ghost use Rattle.std.specs.Option.{option_map};
-ghost use Rattle.cli_sigs.specs.Attributes.{IsTypeAttribute, before_comma, behind_comma, from_front, up_to_end, assembly_in};
-ghost use Rattle.cli_sigs.specs.Answers.{GivesOnly, AtLongest};
+ghost use Rattle.cli_sigs.specs.Attributes.{IsTypeAttribute, IsBareAttribute, before_comma, behind_comma, from_front, up_to_end, assembly_in};
+ghost use Rattle.cli_sigs.specs.Answers.{GivesOnly, Reads, AtLongest};
 
 use crate::blobs::whole;
 use crate::numbers::{Stop, any_byte, packed, this_byte};
@@ -55,13 +55,37 @@ pub fn read_type_attribute(alloc: Global, blob: &[u8], place: Place) -> Result<N
     ensures found { IfOk result (λ text. IsTypeAttribute blob.now text) }
     ensures only { (text : List ℕ) → IsTypeAttribute blob.now text → GivesOnly result text }
     ensures refused { OnRefused result (AtLongest Rule.S2 place IsTypeAttribute blob.now) }
+    ensures read { Reads result (ended (attribute blob.now)) }
 {
     let read = attribute_of(alloc, blob);
     whole(read, blob, place, Rule::S2)
 }
 
+#[tactic(auto, unfolding(crate::specs::Reading::bare_attribute))]
+fn bare_attribute_of(bytes: &[u8]) -> Result<(u8, &[u8]), Stop>
+    ensures { Gives (λ x. (x.0, x.1.now)) result (bare_attribute bytes.now) }
+{
+    let (_, bytes) = this_byte(0x01, bytes)?;
+    let (_, bytes) = this_byte(0x00, bytes)?;
+    let (_, bytes) = this_byte(0x00, bytes)?;
+    this_byte(0x00, bytes)
+}
+
+/// An attribute without arguments and without named values: the number of these, 0. Refused as an
+/// attribute with a text.
+pub fn read_bare_attribute(blob: &[u8], place: Place) -> Result<u8, Fault>
+    requires { length blob.now < 2 ^ 32 }
+    ensures found { IfOk result (λ named. IsBareAttribute blob.now named) }
+    ensures only { (named : ℕ) → IsBareAttribute blob.now named → GivesOnly result named }
+    ensures refused { OnRefused result (AtLongest Rule.S2 place IsBareAttribute blob.now) }
+    ensures read { Reads result (ended (bare_attribute blob.now)) }
+{
+    let read = bare_attribute_of(blob);
+    whole(read, blob, place, Rule::S2)
+}
+
 /// A text that names a type.
-#[derive(Clone, Copy, Debug)]
+#[derive(Clone, Copy)]
 pub struct TypeName<'a> {
     /// The type's name, with `+` before the name of a nested type.
     pub type_name: &'a [u8],

@@ -5,8 +5,8 @@ ghost use Rattle.cli_sigs.specs.declared.types.SigTy.{SigTy};
 ghost use Rattle.cli_sigs.specs.declared.types.MethodSig.{MethodSig};
 ghost use Rattle.cli_sigs.specs.Grammar.{IsMethodSig, IsPropertySig, IsFieldSig, IsLocals, IsTypeSpec, IsMethodSpec};
 ghost use Rattle.cli_sigs.specs.Valid.{IsValidMethodSig, AreValidLocals, IsValidTypeSpec, IsValidMethodSpec};
-ghost use Rattle.cli_sigs.specs.Reading.{Gives, field_at, list_at};
-ghost use Rattle.cli_sigs.specs.Answers.{GivesOnly, AtLongest, Concludes, Within};
+ghost use Rattle.cli_sigs.specs.Reading.{Gives, field_at, list_at, type_at, method_at, ended};
+ghost use Rattle.cli_sigs.specs.Answers.{GivesOnly, Reads, AtLongest, Concludes, Within};
 ghost use Rattle.std.specs.Prelude.{List};
 
 use crate::elements::{MethodKind, Slot};
@@ -68,6 +68,7 @@ pub fn read_method_sig(alloc: Global, blob: &[u8], place: Place) -> Result<Metho
     ensures valid { IfOk result (λ sig. IsValidMethodSig sig) }
     ensures only { (sig : MethodSig) → IsMethodSig blob.now sig → GivesOnly result sig }
     ensures refused { OnRefused result (AtLongest Rule.S1 place IsMethodSig blob.now) }
+    ensures read { Reads result (ended (method_at MethodKind.Method (type_at 999) blob.now)) }
 {
     let read = method_of(alloc, MOST_INSIDE, MethodKind::Method, blob);
     whole(read, blob, place, Rule::S1)
@@ -79,6 +80,7 @@ pub fn read_property_sig(alloc: Global, blob: &[u8], place: Place) -> Result<Met
     ensures found { IfOk result (λ sig. IsPropertySig blob.now sig) }
     ensures only { (sig : MethodSig) → IsPropertySig blob.now sig → GivesOnly result sig }
     ensures refused { OnRefused result (AtLongest Rule.S1 place IsPropertySig blob.now) }
+    ensures read { Reads result (ended (method_at MethodKind.Property (type_at 999) blob.now)) }
 {
     let read = method_of(alloc, MOST_INSIDE, MethodKind::Property, blob);
     whole(read, blob, place, Rule::S1)
@@ -91,6 +93,7 @@ pub fn read_field_sig(alloc: Global, blob: &[u8], place: Place) -> Result<SigTy,
     ensures valid { IfOk result (λ t. IsValidTypeSpec t) }
     ensures only { (t : SigTy) → IsFieldSig blob.now t → GivesOnly result t }
     ensures refused { OnRefused result (AtLongest Rule.S1 place IsFieldSig blob.now) }
+    ensures read { Reads result (ended (field_at 999 blob.now)) }
 {
     let read = field_of(alloc, blob);
     whole(read, blob, place, Rule::S1)
@@ -103,6 +106,7 @@ pub fn read_locals(alloc: Global, blob: &[u8], place: Place) -> Result<SigTys, F
     ensures valid { IfOk result (λ ts. AreValidLocals ts) }
     ensures only { (ts : List SigTy) → IsLocals blob.now ts → GivesOnly result ts }
     ensures refused { OnRefused result (AtLongest Rule.S1 place IsLocals blob.now) }
+    ensures read { Reads result (ended (list_at 0x07 999 Slot.Local blob.now)) }
 {
     let read = list_of(alloc, 0x07, Slot::Local, blob);
     whole(read, blob, place, Rule::S1)
@@ -115,6 +119,7 @@ pub fn read_type_spec(alloc: Global, blob: &[u8], place: Place) -> Result<SigTy,
     ensures valid { IfOk result (λ t. IsValidTypeSpec t) }
     ensures only { (t : SigTy) → IsTypeSpec blob.now t → GivesOnly result t }
     ensures refused { OnRefused result (AtLongest Rule.S1 place IsTypeSpec blob.now) }
+    ensures read { Reads result (ended (type_at 999 Slot.Plain blob.now)) }
 {
     let read = type_of(alloc, MOST_INSIDE, Slot::Plain, blob);
     whole(read, blob, place, Rule::S1)
@@ -127,6 +132,7 @@ pub fn read_method_spec(alloc: Global, blob: &[u8], place: Place) -> Result<SigT
     ensures valid { IfOk result (λ ts. IsValidMethodSpec ts) }
     ensures only { (ts : List SigTy) → IsMethodSpec blob.now ts → GivesOnly result ts }
     ensures refused { OnRefused result (AtLongest Rule.S1 place IsMethodSpec blob.now) }
+    ensures read { Reads result (ended (list_at 0x0A 999 Slot.Plain blob.now)) }
 {
     let read = list_of(alloc, 0x0A, Slot::Plain, blob);
     whole(read, blob, place, Rule::S1)

@@ -1,10 +1,10 @@
 // Element types: what the first byte of a type says (ECMA-335, II.23.1.16), and where it may stand.
 ghost use Rattle.std.specs.Prelude.{◌≡◌};
-ghost use Rattle.cli_sigs.specs.Elements.{element_of, element_in, is_leaf, may_stand, kept};
-ghost use Rattle.cli_sigs.specs.Methods.{may_begin, returned};
+ghost use Rattle.cli_sigs.specs.Elements.{element_of, element_in, is_leaf, may_stand, slot_behind};
+ghost use Rattle.cli_sigs.specs.Methods.{may_begin, result_slot};
 
 /// What the first byte of a type says.
-#[derive(Clone, Copy, Debug, PartialEq, Eq)]
+#[derive(Clone, Copy)]
 pub enum Element {
     Prim(u8),
     Ptr,
@@ -23,7 +23,7 @@ pub enum Element {
 }
 
 /// Where a type stands: what may stand there beside the types that may stand anywhere.
-#[derive(Clone, Copy, Debug, PartialEq, Eq)]
+#[derive(Clone, Copy)]
 pub enum Slot {
     /// A field, an item of an array or an argument of an instance: nothing else.
     Plain,
@@ -40,7 +40,7 @@ pub enum Slot {
 }
 
 /// Whose signature it is: a method's, that of a method behind FNPTR, or a property's.
-#[derive(Clone, Copy, Debug, PartialEq, Eq)]
+#[derive(Clone, Copy)]
 pub enum MethodKind {
     Method,
     Pointer,
@@ -89,8 +89,8 @@ impl MethodKind {
     }
 
     /// Where the result of this kind stands: a property is not void.
-    pub fn returned(self) -> Slot
-        ensures { result ≡ returned self }
+    pub fn result_slot(self) -> Slot
+        ensures { result ≡ result_slot self }
     {
         match self {
             MethodKind::Property => Slot::Param,
@@ -101,8 +101,8 @@ impl MethodKind {
 
 impl Slot {
     /// Where the type behind a modifier or PINNED stands.
-    pub fn kept(self) -> Slot
-        ensures { result ≡ kept self }
+    pub fn slot_behind(self) -> Slot
+        ensures { result ≡ slot_behind self }
     {
         match self {
             Slot::Local => Slot::Constrained,

@@ -8,11 +8,9 @@ mod elements;
 mod numbers;
 mod printing;
 mod reading;
-#[cfg(test)]
-mod tests;
 mod types;
 
-pub use attribute::{TypeName, read_type_attribute, split_type_name};
+pub use attribute::{TypeName, read_bare_attribute, read_type_attribute, split_type_name};
 pub use blobs::{
     read_field_sig, read_locals, read_method_sig, read_method_spec, read_property_sig,
     read_type_spec,

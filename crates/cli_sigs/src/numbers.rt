@@ -1,8 +1,8 @@
 // Single bytes and compressed numbers at the front of a slice (ECMA-335, II.23.2).
 ghost use Rattle.std.specs.Prelude.{◌≡◌, ◌+◌, ◌*◌, ◌<◌, ◌≤◌, ◌^◌, ◌==◌, IfOk};
-ghost use Rattle.cli_sigs.specs.Numbers.{unrotated};
+ghost use Rattle.cli_sigs.specs.Numbers.{unrotated, has_table};
 ghost use Rattle.cli_sigs.specs.Read.{byte_where, byte_as, many};
-ghost use Rattle.cli_sigs.specs.Reading.{Gives, is_byte, is_head, is_zero_head, this_byte, packed_after, packed, head_half, signed, nothing_after, no_items, named_value, leaf_in, counted};
+ghost use Rattle.cli_sigs.specs.Reading.{Gives, is_byte, is_head, is_zero_head, this_byte, packed_after, packed, is_coded_head, is_tagged_byte, coded_after, coded_index, head_half, signed, nothing_after, no_items, named_value, leaf_in, counted};
 ghost use Rattle.cli_sigs.specs.Elements.{element_in};
 
 use crate::elements::{Element, Slot};
@@ -101,6 +101,78 @@ pub fn packed(bytes: &[u8]) -> Result<(u32, &[u8]), Stop>
 {
     let (a, rest) = head_byte(bytes)?;
     packed_rest(a, rest)
+}
+
+/// Whether the two lowest bits are the tag of a table.
+fn has_table(last: u8) -> bool
+    ensures { result ≡ has_table last }
+{
+    last % 4 < 3
+}
+
+/// The first byte of a coded index.
+fn coded_head(bytes: &[u8]) -> Result<(u8, &[u8]), Stop>
+    ensures { Gives (λ x. (x.0, x.1.now)) result (byte_where is_coded_head bytes.now) }
+{
+    match bytes {
+        [] => Err(Stop::At(0)),
+        [b, rest @ ..] => {
+            if *b < 0xE0 && (*b >= 0x80 || has_table(*b)) {
+                Ok((*b, rest))
+            } else {
+                Err(Stop::At(bytes.len()))
+            }
+        }
+    }
+}
+
+/// The last of several bytes of a coded index.
+fn tagged_byte(bytes: &[u8]) -> Result<(u8, &[u8]), Stop>
+    ensures { Gives (λ x. (x.0, x.1.now)) result (byte_where is_tagged_byte bytes.now) }
+{
+    match bytes {
+        [] => Err(Stop::At(0)),
+        [b, rest @ ..] => {
+            if has_table(*b) {
+                Ok((*b, rest))
+            } else {
+                Err(Stop::At(bytes.len()))
+            }
+        }
+    }
+}
+
+/// The rest of a coded index that begins with `a`.
+#[tactic(auto, unfolding(crate::specs::Reading::coded_after))]
+fn coded_rest(a: u8, bytes: &[u8]) -> Result<(u32, &[u8]), Stop>
+    requires { a < 0xE0 }
+    ensures { Gives (λ x. (x.0, x.1.now)) result (coded_after a bytes.now) }
+{
+    let a = u32::from(a);
+    if a < 0x80 {
+        return Ok((a, bytes));
+    }
+    if a < 0xC0 {
+        let (b, bytes) = tagged_byte(bytes)?;
+        return Ok((0x100 * (a - 0x80) + u32::from(b), bytes));
+    }
+    let (b, bytes) = any_byte(bytes)?;
+    let (c, bytes) = any_byte(bytes)?;
+    let (d, bytes) = tagged_byte(bytes)?;
+    let (b, c, d) = (u32::from(b), u32::from(c), u32::from(d));
+    Ok((
+        0x100_0000 * (a - 0xC0) + 0x1_0000 * b + 0x100 * c + d,
+        bytes,
+    ))
+}
+
+/// A coded index of the table of a type (II.23.2.8).
+#[tactic(auto, unfolding(crate::specs::Reading::coded_index))]
+pub fn coded_index(bytes: &[u8]) -> Result<(u32, &[u8]), Stop>
+    ensures { Gives (λ x. (x.0, x.1.now)) result (coded_index bytes.now) }
+{
+    let (a, rest) = coded_head(bytes)?;
+    coded_rest(a, rest)
 }
 
 fn half(a: u8) -> u32

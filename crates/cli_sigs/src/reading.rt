@@ -2,12 +2,13 @@
 ghost use Rattle.std.specs.Prelude.{◌≡◌};
 ghost use Rattle.std.specs.Option.{option_map};
 ghost use Rattle.cli_sigs.specs.Read.{many, byte_where, with_front, behind};
-ghost use Rattle.cli_sigs.specs.Methods.{may_begin, returned, is_generic, is_vararg};
+ghost use Rattle.cli_sigs.specs.Methods.{may_begin, result_slot, is_generic, is_vararg};
 ghost use Rattle.cli_sigs.specs.Reading.{Gives, type_at, type_after, leaf_after, bare_inst, array_of, inst_of, modified_of, counted, generics_after, open_params, params_after, method_at};
 
 use crate::elements::{Element, MethodKind, Slot};
 use crate::numbers::{
-    Stop, element, leaf_element, named_value, no_items, packed, packed_list, signed_list,
+    Stop, coded_index, element, leaf_element, named_value, no_items, packed, packed_list,
+    signed_list,
 };
 use crate::types::{MethodSig, SigTy, SigTys};
 use sqlite_items::{Boxed, Items};
@@ -76,7 +77,7 @@ fn bare_inst(alloc: Global, bytes: &[u8]) -> Result<(SigTy, &[u8]), Stop>
     ensures { Gives (λ x. (x.0, x.1.now)) result (bare_inst bytes.now) }
 {
     let (value, bytes) = named_value(bytes)?;
-    let (coded, bytes) = packed(bytes)?;
+    let (coded, bytes) = coded_index(bytes)?;
     let (_, bytes) = no_items(bytes)?;
     let args = Items::new(alloc);
     Ok((SigTy::Inst { value, coded, args }, bytes))
@@ -90,7 +91,7 @@ fn leaf_after(alloc: Global, element: Element, bytes: &[u8]) -> Result<(SigTy, &
     match element {
         Element::Prim(b) => Ok((SigTy::Prim(b), bytes)),
         Element::Named(value) => {
-            let (coded, bytes) = packed(bytes)?;
+            let (coded, bytes) = coded_index(bytes)?;
             Ok((SigTy::Named { value, coded }, bytes))
         }
         Element::Var => {
@@ -176,7 +177,7 @@ fn inst_of(alloc: Global, depth: u32, bytes: &[u8]) -> Result<(SigTy, &[u8]), St
     ensures { Gives (λ x. (x.0, x.1.now)) result (inst_of (type_at depth) bytes.now) }
 {
     let (value, bytes) = named_value(bytes)?;
-    let (coded, bytes) = packed(bytes)?;
+    let (coded, bytes) = coded_index(bytes)?;
     let (args, bytes) = types_of(alloc, depth, Slot::Plain, bytes)?;
     Ok((SigTy::Inst { value, coded, args }, bytes))
 }
@@ -235,7 +236,7 @@ pub fn method_of(
     let (flags, bytes) = first_byte(kind, bytes)?;
     let (generics, bytes) = generics(is_generic(flags), bytes)?;
     let (count, bytes) = packed(bytes)?;
-    let (result, bytes) = type_of(alloc, depth, kind.returned(), bytes)?;
+    let (result, bytes) = type_of(alloc, depth, kind.result_slot(), bytes)?;
     let (
         Params {
             types: params,
@@ -278,7 +279,7 @@ fn after(
             Ok((SigTy::ByRef(inner), bytes))
         }
         Element::Named(value) => {
-            let (coded, bytes) = packed(bytes)?;
+            let (coded, bytes) = coded_index(bytes)?;
             Ok((SigTy::Named { value, coded }, bytes))
         }
         Element::Var => {
@@ -300,8 +301,8 @@ fn after(
             Ok((SigTy::SzArray(inner), bytes))
         }
         Element::Modified(required) => {
-            let (modifier, bytes) = packed(bytes)?;
-            let (inner, bytes) = boxed(alloc, depth, slot.kept(), bytes)?;
+            let (modifier, bytes) = coded_index(bytes)?;
+            let (inner, bytes) = boxed(alloc, depth, slot.slot_behind(), bytes)?;
             Ok((
                 SigTy::Modified {
                     required,
@@ -312,7 +313,7 @@ fn after(
             ))
         }
         Element::Pinned => {
-            let (inner, bytes) = boxed(alloc, depth, slot.kept(), bytes)?;
+            let (inner, bytes) = boxed(alloc, depth, slot.slot_behind(), bytes)?;
             Ok((SigTy::Pinned(inner), bytes))
         }
     }

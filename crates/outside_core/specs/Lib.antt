@@ -3,3 +3,4 @@ pub mod Sink
 pub mod Memory
 pub mod MemStores
 pub mod MemSinks
+pub mod Streams

@@ -11,7 +11,7 @@ use sqlite_items::Items;
 use std::alloc::{AllocError, Global};
 
 /// A file with its name.
-#[derive(Debug, Drop)]
+#[derive(Drop)]
 pub struct Entry {
     name: Bytes,
     bytes: Bytes,
@@ -90,7 +90,7 @@ fn put_entry(
 }
 
 /// Counts a call, and says whether it fails.
-fn counted(calls: &mut u32, failing: &[u32]) -> bool
+fn count_call(calls: &mut u32, failing: &[u32]) -> bool
     ensures { failing.now ≡ [] → result ≡ false }
 {
     let call = *calls;
@@ -98,7 +98,7 @@ fn counted(calls: &mut u32, failing: &[u32]) -> bool
     failing.contains(&call)
 }
 
-fn copied(alloc: Global, bytes: &[u8], cap: u64) -> Result<Bytes, ReadRefusal>
+fn copy_of(alloc: Global, bytes: &[u8], cap: u64) -> Result<Bytes, ReadRefusal>
     ensures told { TellsFile (Some bytes.now) cap result }
     ensures capped { IfOk result (λ copy. length copy ≤ cap) }
     ensures not_failed { result ≢ Err ReadRefusal.Failed }
@@ -119,18 +119,18 @@ impl Store for MemStore {
     ghost steady = { λ s. never_fails s.failing s.faults };
 
     fn read_all(&mut self, alloc: Global, name: &str, cap: u64) -> Result<Bytes, ReadRefusal> {
-        if counted(&mut self.calls, self.failing.as_slice()) {
+        if count_call(&mut self.calls, self.failing.as_slice()) {
             self.faults = self.faults.saturating_add(1);
             return Err(ReadRefusal::Failed);
         }
         match find(self.entries.as_slice(), name.as_bytes()) {
             None => Err(ReadRefusal::Failed),
-            Some(bytes) => copied(alloc, bytes, cap),
+            Some(bytes) => copy_of(alloc, bytes, cap),
         }
     }
 
     fn replace(&mut self, alloc: Global, name: &str, bytes: &[u8]) -> Result<(), StoreRefusal> {
-        if counted(&mut self.calls, self.failing.as_slice()) {
+        if count_call(&mut self.calls, self.failing.as_slice()) {
             self.faults = self.faults.saturating_add(1);
             return Err(StoreRefusal::Failed);
         }
@@ -193,7 +193,7 @@ impl Sink for MemSink {
     ghost room = { λ s. known_room s.failing s.room };
 
     fn put(&mut self, bytes: &[u8]) -> Result<(), SinkFailed> {
-        if counted(&mut self.calls, self.failing.as_slice()) {
+        if count_call(&mut self.calls, self.failing.as_slice()) {
             self.faults = self.faults.saturating_add(1);
             return Err(SinkFailed);
         }

@@ -2,7 +2,7 @@ use Rattle.cil_base.specs.declared.rule.Rule.TheVariants.{S2}
 use Rattle.cli_sigs.specs.Attributes.{IsTypeAttribute}
 use Rattle.cli_sigs.specs.Reading.{attribute}
 use Rattle.cli_sigs.proofs.AttributeLaws.{reads-attribute}
-use Rattle.cli_sigs.proofs.BlobLaws.{reads_within, answers_found, answers_only, answers_refused}
+use Rattle.cli_sigs.proofs.BlobLaws.{reads_within, answers_found, answers_only, answers_refused, answers_read}
 use Rattle.cli_sigs.proofs.attribute.read_type_attribute.Goals as goal
 
 pub whole-requires-clause-within : goal.whole-requires-clause-within
@@ -16,3 +16,6 @@ returns-clause-only c = answers_only IsTypeAttribute attribute reads-attribute (
 
 pub returns-clause-refused : goal.returns-clause-refused
 returns-clause-refused c = answers_refused IsTypeAttribute attribute reads-attribute (λ x. (x.0, x.1.now)) c.args.blob.now S2 c.args.place c.attribute_of-read.result c.whole.result c.attribute_of-read.ensures c.whole.ensures
+
+pub returns-clause-read : goal.returns-clause-read
+returns-clause-read c = answers_read attribute (λ x. (x.0, x.1.now)) c.args.blob.now S2 c.args.place c.attribute_of-read.result c.whole.result c.attribute_of-read.ensures c.whole.ensures

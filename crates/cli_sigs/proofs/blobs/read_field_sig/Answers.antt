@@ -5,7 +5,7 @@ use Rattle.cli_sigs.specs.Valid.{IsValidTypeSpec}
 use Rattle.cli_sigs.specs.Reading.{field_at}
 use Rattle.cli_sigs.proofs.KindLaws.{reads-field}
 use Rattle.cli_sigs.proofs.ValidLaws.{read_valid, type_valid}
-use Rattle.cli_sigs.proofs.BlobLaws.{reads_within, answers_found, answers_only, answers_refused}
+use Rattle.cli_sigs.proofs.BlobLaws.{reads_within, answers_found, answers_only, answers_refused, answers_read}
 use Rattle.cli_sigs.proofs.blobs.read_field_sig.Goals as goal
 
 pub whole-requires-clause-within : goal.whole-requires-clause-within
@@ -24,3 +24,6 @@ pub returns-clause-valid : goal.returns-clause-valid
 returns-clause-valid c =
     read_valid IsFieldSig IsValidTypeSpec c.args.blob.now c.whole.result (λ t g. type_valid 1000 Plain g.0 t g.2)
     (answers_found IsFieldSig (field_at 999) reads-field (λ x. (x.0, x.1.now)) c.args.blob.now S1 c.args.place c.field_of-read.result c.whole.result c.field_of-read.ensures c.whole.ensures)
+
+pub returns-clause-read : goal.returns-clause-read
+returns-clause-read c = answers_read (field_at 999) (λ x. (x.0, x.1.now)) c.args.blob.now S1 c.args.place c.field_of-read.result c.whole.result c.field_of-read.ensures c.whole.ensures

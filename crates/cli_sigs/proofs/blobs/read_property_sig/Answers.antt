@@ -3,7 +3,7 @@ use Rattle.cli_sigs.specs.declared.elements.MethodKind.TheVariants.{Property}
 use Rattle.cli_sigs.specs.Grammar.{IsPropertySig}
 use Rattle.cli_sigs.specs.Reading.{type_at, method_at}
 use Rattle.cli_sigs.proofs.KindLaws.{reads-methods}
-use Rattle.cli_sigs.proofs.BlobLaws.{reads_within, answers_found, answers_only, answers_refused}
+use Rattle.cli_sigs.proofs.BlobLaws.{reads_within, answers_found, answers_only, answers_refused, answers_read}
 use Rattle.cli_sigs.proofs.blobs.read_property_sig.Goals as goal
 
 pub whole-requires-clause-within : goal.whole-requires-clause-within
@@ -17,3 +17,6 @@ returns-clause-only c = answers_only IsPropertySig (method_at Property (type_at 
 
 pub returns-clause-refused : goal.returns-clause-refused
 returns-clause-refused c = answers_refused IsPropertySig (method_at Property (type_at 999)) (reads-methods Property) (λ x. (x.0, x.1.now)) c.args.blob.now S1 c.args.place c.method_of-read.result c.whole.result c.method_of-read.ensures c.whole.ensures
+
+pub returns-clause-read : goal.returns-clause-read
+returns-clause-read c = answers_read (method_at Property (type_at 999)) (λ x. (x.0, x.1.now)) c.args.blob.now S1 c.args.place c.method_of-read.result c.whole.result c.method_of-read.ensures c.whole.ensures

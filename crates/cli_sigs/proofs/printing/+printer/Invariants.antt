@@ -1,5 +1,6 @@
 use Rattle.std.proofs.Common.{◌+◌, ◌*◌, take}
-use Rattle.cli_sigs.specs.Grammar.{IsType, Each, Adds}
+use Rattle.cli_sigs.specs.Grammar.{IsTypeBy, Each, Adds}
+use Rattle.cli_sigs.specs.Numbers.{Shortest}
 use Rattle.cli_sigs.proofs.printing.+printer.Given as goal
 
 abbrev pub decreases-push_type : goal.decreases-push_type
@@ -24,4 +25,4 @@ abbrev pub decreases-push_form : goal.decreases-push_form
 decreases-push_form l = 6 * l.depth + 5
 
 abbrev pub invariant-push_each_type-loop-ty : goal.invariant-push_each_type-loop-ty
-invariant-push_each_type-loop-ty l = Adds (Each (IsType l.depth l.slot)) l.fn.out l.out (take l.ty-index l.types)
+invariant-push_each_type-loop-ty l = Adds (Each (IsTypeBy Shortest l.depth l.slot)) l.fn.out.items l.out.items (take l.ty-index l.types)

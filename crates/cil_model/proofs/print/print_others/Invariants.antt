@@ -1,7 +1,0 @@
-use Rattle.std.proofs.Common.{◌≡◌, ◌++◌, take}
-use Rattle.std.specs.List.{flat_map}
-use Rattle.cil_model.specs.Printed.{more_text}
-use Rattle.cil_model.proofs.print.print_others.Given as goal
-
-abbrev pub invariant-loop-v : goal.invariant-loop-v
-invariant-loop-v l = l.out ≡ l.initial.out ++ flat_map more_text (take l.v-index l.vs)

@@ -1,0 +1,2 @@
+mod PrintLaws
+mod TextLaws

@@ -1,0 +1,125 @@
+// The texts of runs; expected ones are worked out by hand.
+use cil_base::{Bytes, Name, U32s, Units};
+use cil_model::{Outcome, Pointer, Reply, ReplyResult, TraceItem, Tys, Value, Values};
+use run_texts::{print_item, print_outcome, print_value, text_of};
+use std::alloc::{AllocError, Global};
+use std::test::Fail;
+
+fn prints(alloc: Global, v: Value, text: &[u8]) -> Result<bool, AllocError> {
+    let mut out = Bytes::new(alloc);
+    print_value(&mut out, &v)?;
+    Ok(out.as_slice() == text)
+}
+
+fn prints_units(alloc: Global, units: &[u16], text: &[u8]) -> Result<bool, AllocError> {
+    prints(alloc, Value::Text(Units::from_slice(alloc, units)?), text)
+}
+
+#[test]
+fn values_have_their_texts(rt: HostRuntime) -> Result<(), Fail> {
+    let alloc = rt.alloc();
+    let units = [0x61, 0x22, 0x5C, 0x7E, 0x7F, 0xD83D, 0xDE0A];
+    let pointer = Pointer::Inside {
+        object: 1,
+        path: U32s::new(alloc),
+    };
+    let function = Value::Func {
+        method: 0,
+        type_args: Tys::new(alloc),
+        method_args: Tys::new(alloc),
+    };
+    let found = [
+        prints(alloc, Value::Ptr(pointer), b"&")?,
+        prints(alloc, function, b"fn")?,
+        prints(alloc, Value::I4(-5), b"-5")?,
+        prints(alloc, Value::I8(5), b"5L")?,
+        prints(alloc, Value::Native(5), b"5n")?,
+        prints(alloc, Value::Obj(12), b"#12")?,
+        prints(alloc, Value::Null, b"null")?,
+        prints(alloc, Value::Struct(Values::new(alloc)), b"struct")?,
+        prints(alloc, Value::Opaque(Bytes::new(alloc)), b"opaque")?,
+        prints_units(alloc, &units, b"\"a\\\"\\\\~\\u007F\\uD83D\\uDE0A\"")?,
+    ];
+    assert_eq!(rt; found, [true; 10]);
+    Ok(())
+}
+
+/// Whether a call of `a\b` with 5 and "x" prints so.
+fn call_prints(alloc: Global, given: ReplyResult, text: &[u8]) -> Result<bool, AllocError> {
+    let mut args = Values::new(alloc);
+    args.push(Value::I4(5))?;
+    args.push(Value::Text(Units::from_slice(alloc, &[0x78])?))?;
+    let by_ref = Values::new(alloc);
+    let item = TraceItem {
+        member: Name::from_slice(alloc, b"a\\b")?,
+        args,
+        reply: Reply {
+            result: given,
+            by_ref,
+        },
+    };
+    let mut out = Bytes::new(alloc);
+    print_item(&mut out, &item)?;
+    Ok(out.as_slice() == text)
+}
+
+#[test]
+fn a_call_is_a_line(rt: HostRuntime) -> Result<(), Fail> {
+    let alloc = rt.alloc();
+    let given = ReplyResult::Given(Value::Null);
+    let throw = ReplyResult::Throw(Name::from_slice(alloc, b"E 1")?);
+    let found = [
+        call_prints(alloc, throw, b"call a\\x5Cb(5, \"x\") -> throw E\\x201\n")?,
+        call_prints(alloc, given, b"call a\\x5Cb(5, \"x\") -> null\n")?,
+        call_prints(
+            alloc,
+            ReplyResult::Void,
+            b"call a\\x5Cb(5, \"x\") -> void\n",
+        )?,
+    ];
+    assert_eq!(rt; found, [true; 3]);
+    Ok(())
+}
+
+fn ends_with(alloc: Global, o: Outcome, text: &[u8]) -> Result<bool, AllocError> {
+    let mut out = Bytes::new(alloc);
+    print_outcome(&mut out, &o)?;
+    Ok(out.as_slice() == text)
+}
+
+#[test]
+fn an_end_is_a_line(rt: HostRuntime) -> Result<(), Fail> {
+    let alloc = rt.alloc();
+    let name = Name::from_slice(alloc, b"E")?;
+    let found = [
+        ends_with(alloc, Outcome::Thrown { object: 3, name }, b"throw E\n")?,
+        ends_with(alloc, Outcome::Return(Some(Value::I4(7))), b"return 7\n")?,
+        ends_with(alloc, Outcome::Return(None), b"return void\n")?,
+        ends_with(alloc, Outcome::Stuck, b"stuck\n")?,
+    ];
+    assert_eq!(rt; found, [true; 4]);
+    Ok(())
+}
+
+fn reads_as(alloc: Global, bytes: &[u8], units: &[u16]) -> bool {
+    matches!(text_of(alloc, bytes), Ok(text) if text.as_slice() == units)
+}
+
+#[test]
+fn bytes_read_as_a_text(rt: HostRuntime) {
+    let rows: [(&[u8], &[u16]); 5] = [
+        (&[0x41, 0xC3, 0xA9], &[0x41, 0xE9]),
+        (&[0xF0, 0x9F, 0x98, 0x80, 0x42], &[0xD83D, 0xDE00, 0x42]),
+        // A character cut short, a surrogate, and a spelling that is too long.
+        (&[0xE2, 0x82, 0x41], &[0xFFFD, 0xFFFD, 0x41]),
+        (&[0xED, 0xA0, 0x80], &[0xFFFD, 0xFFFD, 0xFFFD]),
+        (&[0xC0, 0x80], &[0xFFFD, 0xFFFD]),
+    ];
+    let mut count = 0;
+    for (bytes, units) in rows.iter() {
+        if reads_as(rt.alloc(), bytes, units) {
+            count += 1;
+        }
+    }
+    assert_eq!(rt; count, 5);
+}
