@@ -1,7 +1,6 @@
 -- What bytes stand for a method body (ECMA-335, II.25.4 and III.1.7), and which rule breaks where none do.
 use Rattle.std.specs.Prelude.{◌≡◌, ◌≢◌, ◌⊎◌, MatchOption, ℕ, ◌+◌, ◌==◌, if◌then◌else◌, List, [], ◌∷◌, ◌++◌, Option, Some, None, Err, is_none, position, get_or}
 use Rattle.std.specs.Option.{option_map, option_and_then}
-use Rattle.cil_base.specs.declared.token.Token.{Token}
 use Rattle.cil_base.specs.declared.rule.Rule.{Rule}
 use Rattle.cil_base.specs.declared.rule.Rule.TheVariants.{I3, I5}
 use Rattle.cil_base.specs.declared.refusal.Place.{Place}

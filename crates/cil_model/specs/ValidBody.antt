@@ -1,5 +1,5 @@
 -- Which bodies can be written: each instruction has a spelling, and each target is an instruction (ECMA-335, III.1.7 and III.1.9).
-use Rattle.std.specs.Prelude.{◌≡◌, ◌≤◌, ◌<◌, ℕ, ◌^◌, Bool, true, false, ◌==◌, ◌&&◌, nat_lt, List, [], ◌∷◌, length, get_or, find, ℤ, pos, negsuc, Option, Some, None, IfSome, is_some, IsTrue}
+use Rattle.std.specs.Prelude.{◌≡◌, ◌≤◌, ◌<◌, ℕ, ◌^◌, Bool, true, false, ◌==◌, ◌&&◌, nat_lt, List, [], ◌∷◌, length, get_or, find, ℤ, pos, negsuc, Option, IfSome, is_some, IsTrue}
 use Rattle.std.specs.Ordering.{int_eq}
 use Rattle.cil_base.specs.declared.token.Token.{Token}
 use Rattle.cil_model.specs.declared.body.Operand.{Operand}

@@ -9,7 +9,7 @@ use std::alloc::{AllocError, Global};
 
 /// What an instruction is given (ECMA-335, III.1.9). Targets are places in the list of
 /// instructions, tokens carry the assembly that they are of.
-#[derive(Debug, Drop)]
+#[derive(Drop)]
 pub enum Operand {
     Nothing,
     Int(i64),
@@ -21,7 +21,7 @@ pub enum Operand {
 
 /// One instruction with its prefixes. `op` is the code of its longest spelling, 0xFE00 and the
 /// second byte where it has two. In `prefixes` 1 is `volatile.`, 2 `tail.`, 4 `readonly.`.
-#[derive(Debug, Drop)]
+#[derive(Drop)]
 pub struct Instr {
     pub op: u16,
     pub operand: Operand,
@@ -34,7 +34,7 @@ pub struct Instr {
 pub type Instrs = Items<Instr>;
 
 /// How a region's handler is entered (ECMA-335, II.25.4.6).
-#[derive(Debug, Drop)]
+#[derive(Drop)]
 pub enum RegionKind {
     Catch(Token),
     Filter(u32),
@@ -44,7 +44,7 @@ pub enum RegionKind {
 
 /// A try block and its handler, by places in the list of instructions; each end is one past the
 /// last.
-#[derive(Debug, Drop)]
+#[derive(Drop)]
 pub struct Region {
     pub kind: RegionKind,
     pub try_from: u32,
@@ -56,7 +56,7 @@ pub struct Region {
 pub type Regions = Items<Region>;
 
 /// A method's code. `offsets` has the offset of each instruction in the code that was read.
-#[derive(Debug, Drop)]
+#[derive(Drop)]
 pub struct Body {
     pub instrs: Instrs,
     pub offsets: U32s,
@@ -106,37 +106,5 @@ impl Instr {
             prefixes: self.prefixes,
             under: copied_under(alloc, &self.under)?,
         })
-    }
-}
-
-#[cfg(test)]
-mod tests {
-    use super::*;
-    use crate::ty::{Ty, Tys};
-    use sqlite_items::Boxed;
-    use std::test::Fail;
-
-    #[test]
-    fn copies_have_the_same_parts(rt: HostRuntime) -> Result<(), Fail> {
-        let alloc = rt.alloc();
-        let mut type_args = Tys::new(alloc);
-        type_args.push(Ty::Array(Boxed::new(alloc, Ty::Prim(8))?))?;
-        let instr = Instr {
-            op: 0x45,
-            operand: Operand::Targets(U32s::from_slice(alloc, &[3, 1])?),
-            constrained: None,
-            prefixes: 1,
-            under: Some(Under {
-                type_args,
-                method_args: Tys::new(alloc),
-            }),
-        };
-        let copy = instr.copied(alloc)?;
-        let targets =
-            matches!(&copy.operand, Operand::Targets(ks) if ks.as_slice() == [3, 1].as_slice());
-        assert!(rt; targets);
-        let args = matches!(&copy.under, Some(under) if under.type_args.len() == 1);
-        assert!(rt; args);
-        Ok(())
     }
 }

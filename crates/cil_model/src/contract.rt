@@ -12,7 +12,7 @@ use std::alloc::Global;
 /// A type where it stands: the local of that index in a StandAloneSig row, the argument of that
 /// index in a MethodSpec row, the result (0) or a parameter (from 1) in a MethodDef or MemberRef
 /// row, or with index 0 the type of a TypeDef, TypeRef or TypeSpec row.
-#[derive(Debug, Drop)]
+#[derive(Drop)]
 pub struct TyRef {
     pub assembly: u32,
     pub token: Token,
@@ -23,7 +23,7 @@ pub struct TyRef {
 pub type TyRefs = Items<TyRef>;
 
 /// The contract call that ends a clause.
-#[derive(Clone, Copy, Debug, Drop, PartialEq, Eq)]
+#[derive(Clone, Copy, Drop)]
 pub enum ClauseKind {
     Requires,
     /// Requires with the type of an exception.
@@ -37,7 +37,7 @@ pub enum ClauseKind {
 }
 
 /// The range of an argument of OldValue in a clause's instructions; `to` is the place of the call.
-#[derive(Debug, Drop)]
+#[derive(Drop)]
 pub struct Old {
     pub from: u32,
     pub to: u32,
@@ -50,7 +50,7 @@ pub type Names = Items<Name>;
 
 /// A clause. `home` is the method by which its label is made, `user` tells whether its call has a
 /// message, and `inline` has the labels of the Assert and Assume calls among its instructions.
-#[derive(Debug, Drop)]
+#[derive(Drop)]
 pub struct Clause {
     pub kind: ClauseKind,
     pub home: u32,
@@ -66,7 +66,7 @@ pub struct Clause {
 pub type Clauses = Items<Clause>;
 
 /// A method's own contract. The lead-in ends at `lead_end`, and the rest begins at `rest_from`.
-#[derive(Debug, Drop)]
+#[derive(Drop)]
 pub struct Contract {
     pub lead_end: u32,
     pub rest_from: u32,
@@ -79,14 +79,14 @@ pub type ContractList = Items<Contract>;
 pub type ClauseLists = Items<Clauses>;
 
 /// The own contracts of all methods, and the invariants of all types, in the program's order.
-#[derive(Debug, Drop)]
+#[derive(Drop)]
 pub struct OwnContracts {
     pub by_method: ContractList,
     pub invariants: ClauseLists,
 }
 
 /// A method's effective contract.
-#[derive(Debug, Drop)]
+#[derive(Drop)]
 pub struct Effective {
     pub lead_end: u32,
     pub rest_from: u32,
@@ -98,7 +98,7 @@ pub struct Effective {
 pub type EffectiveList = Items<Effective>;
 
 /// How much is checked.
-#[derive(Clone, Copy, Debug, Drop, PartialEq, Eq)]
+#[derive(Clone, Copy, Drop)]
 pub enum Level {
     NoChecks,
     ReleaseRequires,
@@ -108,7 +108,7 @@ pub enum Level {
 }
 
 /// Clauses that run together, or stand where they are (`Inline`).
-#[derive(Clone, Copy, Debug, Drop, PartialEq, Eq)]
+#[derive(Clone, Copy, Drop)]
 pub enum Group {
     Entry,
     Exit,
@@ -120,7 +120,7 @@ pub enum Group {
 /// What a rewriting or a run with contracts is told: a level, the greatest depth at which groups
 /// run (at most 100), whether a failure throws, whether only visible methods are checked, and
 /// whether calls into contract reference assemblies are.
-#[derive(Clone, Copy, Debug, Drop, PartialEq, Eq)]
+#[derive(Clone, Copy, Drop)]
 pub struct Settings {
     pub level: Level,
     pub guard: u32,
@@ -131,7 +131,7 @@ pub struct Settings {
 
 /// Where the value of an old range is kept: the range's number among those of a clause, by the
 /// clause's place in an effective contract, and a local.
-#[derive(Debug, Drop)]
+#[derive(Drop)]
 pub struct Capture {
     pub clause: u32,
     pub old: u32,
@@ -143,7 +143,7 @@ pub type Captures = Items<Capture>;
 
 /// The class that a rewriting appends, by its tokens in TARGET: its row, its static helpers, and
 /// System.Object.
-#[derive(Clone, Copy, Debug, Drop)]
+#[derive(Clone, Copy, Drop)]
 pub struct Runtime {
     pub class: Token,
     pub enter: Token,
@@ -156,7 +156,7 @@ pub struct Runtime {
 
 /// What a run with contracts is given: one effective contract for each method of the program, of
 /// which those of the assembly `target` count; without contracts the list is empty.
-#[derive(Debug, Drop)]
+#[derive(Drop)]
 pub struct Contracts {
     pub settings: Settings,
     pub target: u32,

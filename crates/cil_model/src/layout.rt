@@ -5,7 +5,7 @@ use sqlite_items::Items;
 
 /// What a method header says (ECMA-335, II.25.4.2 and II.25.4.3): how many bytes it has itself,
 /// how many its code has, and whether sections follow.
-#[derive(Clone, Copy, Debug, PartialEq, Eq)]
+#[derive(Clone, Copy)]
 pub struct MethodHeader {
     pub size: u32,
     pub code_size: u32,
@@ -17,7 +17,7 @@ pub struct MethodHeader {
 
 /// An exception section (II.25.4.5): where its clauses begin and how many they are, where it ends,
 /// and whether another follows.
-#[derive(Clone, Copy, Debug, PartialEq, Eq)]
+#[derive(Clone, Copy)]
 pub struct Section {
     pub fat: bool,
     pub more: bool,
@@ -28,7 +28,7 @@ pub struct Section {
 
 /// An exception clause (II.25.4.6), by offsets in the code. The last number is the token of a class
 /// or the offset of a filter.
-#[derive(Clone, Copy, Debug, PartialEq, Eq)]
+#[derive(Clone, Copy)]
 pub struct RawClause {
     pub flags: u32,
     pub try_from: u32,
@@ -41,7 +41,7 @@ pub struct RawClause {
 pub type RawClauses = Items<RawClause>;
 
 /// What the bytes of a body say apart from its code, and how many they are.
-#[derive(Debug, Drop)]
+#[derive(Drop)]
 pub struct Layout {
     pub header: MethodHeader,
     pub clauses: RawClauses,

@@ -10,7 +10,7 @@ use std::alloc::{AllocError, Global};
 use std::marker::Model;
 
 /// The methods of a program, a list to contracts.
-#[derive(Debug, Drop)]
+#[derive(Drop)]
 pub struct MethodDescs {
     items: Vec<MethodDesc>,
 }

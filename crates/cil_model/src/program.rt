@@ -10,7 +10,7 @@ use cil_base::{Name, Token, U32s, Units};
 use sqlite_items::Items;
 
 /// What a type is (ECMA-335, II.10.1 and II.8.9).
-#[derive(Clone, Copy, Debug, Drop, PartialEq, Eq)]
+#[derive(Clone, Copy, Drop)]
 pub enum Kind {
     Class,
     Interface,
@@ -21,7 +21,7 @@ pub enum Kind {
 
 /// A MethodImpl row (ECMA-335, II.22.27). `owner` is the instance of the declaration's type,
 /// `body` and `declaration` are places in the list of methods.
-#[derive(Debug, Drop)]
+#[derive(Drop)]
 pub struct Impl {
     pub owner: Ty,
     pub body: u32,
@@ -34,7 +34,7 @@ pub type Impls = Items<Impl>;
 /// of the program. `outside` tells a type that is in no assembly of the set, and `reference` one of
 /// a contract reference assembly. `flags` are those of the TypeDef row (ECMA-335, II.23.1.15),
 /// `generics` is the number of type parameters.
-#[derive(Debug, Drop)]
+#[derive(Drop)]
 pub struct TypeDesc {
     pub assembly: u32,
     pub row: u32,
@@ -58,7 +58,7 @@ pub struct TypeDesc {
 pub type TypeDescs = Items<TypeDesc>;
 
 /// A field of a type of the set. `flags` are those of the Field row (ECMA-335, II.23.1.5).
-#[derive(Debug, Drop)]
+#[derive(Drop)]
 pub struct FieldDesc {
     pub owner: u32,
     pub name: Name,
@@ -72,7 +72,7 @@ pub type FieldDescs = Items<FieldDesc>;
 /// A method of the program. Two methods have the same `sig` exactly where their signatures are the
 /// same. `flags` are those of the MethodDef row (ECMA-335, II.23.1.10), `generics` is the number of
 /// the method's own type parameters.
-#[derive(Debug, Drop)]
+#[derive(Drop)]
 pub struct MethodDesc {
     pub assembly: u32,
     pub row: u32,
@@ -92,7 +92,7 @@ pub struct MethodDesc {
 }
 
 /// What a token of an assembly means (ECMA-335, II.22).
-#[derive(Debug, Drop)]
+#[derive(Drop)]
 pub enum Meaning {
     OfType(Ty),
     OfField { owner: Ty, field: u32 },
@@ -101,7 +101,7 @@ pub enum Meaning {
     OfLocals(Tys),
 }
 
-#[derive(Debug, Drop)]
+#[derive(Drop)]
 pub struct TokenRow {
     pub assembly: u32,
     pub token: Token,
@@ -113,7 +113,7 @@ pub type TokenRows = Items<TokenRow>;
 /// The program of a set. The numbers of types, fields and methods don't move when rows are appended
 /// to TARGET: those of the other assemblies come first, in assembly and row order, then TARGET's,
 /// then those outside, TARGET's rows walked last, and at the end those of `__ContractsRuntime`.
-#[derive(Debug, Drop)]
+#[derive(Drop)]
 pub struct Program {
     pub types: TypeDescs,
     pub fields: FieldDescs,
@@ -122,7 +122,7 @@ pub struct Program {
 }
 
 /// A method with the type arguments under which it is seen.
-#[derive(Debug, Drop)]
+#[derive(Drop)]
 pub struct Source {
     pub method: u32,
     pub args: Tys,

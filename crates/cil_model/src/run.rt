@@ -5,7 +5,7 @@ use cil_base::Name;
 use sqlite_items::Items;
 
 /// What an outside call answers: its default, nothing, a value, or a new exception of a name.
-#[derive(Debug, Drop)]
+#[derive(Drop)]
 pub enum ReplyResult {
     Default,
     Void,
@@ -14,7 +14,7 @@ pub enum ReplyResult {
 }
 
 /// The answer to an outside call, with the values that it stores through by-reference arguments.
-#[derive(Debug, Drop)]
+#[derive(Drop)]
 pub struct Reply {
     pub result: ReplyResult,
     pub by_ref: Values,
@@ -23,7 +23,7 @@ pub struct Reply {
 pub type Replies = Items<Reply>;
 
 /// One outside call. A reply that was `Default` is kept as the value that it gave.
-#[derive(Debug, Drop)]
+#[derive(Drop)]
 pub struct TraceItem {
     pub member: Name,
     pub args: Values,
@@ -33,7 +33,7 @@ pub struct TraceItem {
 pub type Trace = Items<TraceItem>;
 
 /// How a run ends.
-#[derive(Debug, Drop)]
+#[derive(Drop)]
 pub enum Outcome {
     Return(Option<Value>),
     /// An exception that nothing caught, with its type's name.
@@ -42,7 +42,7 @@ pub enum Outcome {
 }
 
 /// What a run of so many steps came to.
-#[derive(Debug, Drop)]
+#[derive(Drop)]
 pub enum RunResult {
     Ended {
         outcome: Outcome,

@@ -6,7 +6,7 @@ use sqlite_items::Items;
 
 /// A part of a body: straight code, or a protected block with its handlers.
 #[cycle(tree)]
-#[derive(Debug, Drop)]
+#[derive(Drop)]
 pub enum Block {
     Code(Items<Instr>),
     Guarded {
@@ -17,7 +17,7 @@ pub enum Block {
 
 /// A handler and its code.
 #[cycle(tree)]
-#[derive(Debug, Drop)]
+#[derive(Drop)]
 pub struct Handler {
     pub kind: RegionKind,
     pub blocks: Items<Block>,
@@ -28,7 +28,7 @@ pub type Blocks = Items<Block>;
 pub type Handlers = Items<Handler>;
 
 /// A body whose regions are nested blocks (ECMA-335, I.12.4.2.7).
-#[derive(Debug, Drop)]
+#[derive(Drop)]
 pub struct Tree {
     pub blocks: Blocks,
     pub locals: Option<Token>,

@@ -9,7 +9,7 @@ use std::alloc::{AllocError, Global};
 /// A type as a program names it (ECMA-335, II.23.2.12). An instance of an outside type is its
 /// definition.
 #[cycle(ty)]
-#[derive(Debug, Drop)]
+#[derive(Drop)]
 pub enum Ty {
     /// A type that is one byte in signatures.
     Prim(u8),
@@ -34,7 +34,7 @@ pub enum Ty {
 pub type Tys = Items<Ty>;
 
 /// What stands for the type parameters in the tokens of an instruction.
-#[derive(Debug, Drop)]
+#[derive(Drop)]
 pub struct Under {
     pub type_args: Tys,
     pub method_args: Tys,

@@ -6,7 +6,7 @@ use sqlite_items::Items;
 
 /// What a pointer points to (ECMA-335, I.12.1.1.2 and III.1.1.5.2). `frame` counts the frames below
 /// it and `method` is the method that it runs. `path` leads from a cell to a field of a struct in it.
-#[derive(Debug, Drop)]
+#[derive(Drop)]
 pub enum Pointer {
     Arg {
         frame: u64,
@@ -35,7 +35,7 @@ pub enum Pointer {
 
 /// A value on the stack, in a cell, or in the text of a run (ECMA-335, III.1.1).
 #[cycle(value)]
-#[derive(Debug, Drop)]
+#[derive(Drop)]
 pub enum Value {
     I4(i32),
     I8(i64),

@@ -5,8 +5,8 @@ use Rattle.std.specs.List.{list_all}
 use Rattle.std.specs.Option.{option_map}
 use Rattle.std.proofs.Math.ListN.{get_or-append}
 use Rattle.std.proofs.lemmas.Bool.{cases_lt}
-use Rattle.std.proofs.lemmas.Grind.{common_steps}
 use Rattle.std.proofs.lemmas.List.Quantifiers.{position-Some}
+use Rattle.cil_base.proofs.Small.{equal}
 use Rattle.cil_base.specs.Tokens.{token_of}
 use Rattle.cil_model.specs.declared.body.Instr.{Instr}
 use Rattle.cil_model.specs.declared.body.Region.{Region}
@@ -119,9 +119,6 @@ rise_offsets a at bytes (i ∷ is) (o ∷ os) end b r (suc j) (suc k) lt inside 
     rise_offsets a (at + n) (drop n bytes) is os end (bytes_drop n bytes b) r.1.2 j k (omega arith) (omega arith)
 
 -- ---- regions
-
-equal : (m n : ℕ) → (m == n) ≡ true → m ≡ n
-equal m n h = grind (arith, common_steps)
 
 place_at : (offsets : List ℕ) (at k : ℕ) → index_of offsets at ≡ Some k → (k < length offsets) × (get_or offsets k 0 ≡ at)
 place_at offsets at k h =

@@ -4,7 +4,7 @@ use Rattle.std.specs.Prelude.{nat_le, nat_lt, not, slice_get, ◌==◌, find}
 use Rattle.std.specs.List.{list_all}
 use Rattle.std.proofs.lemmas.Bool.{leb-true}
 use Rattle.std.proofs.lemmas.Grind.{common_steps}
-use Rattle.cil_base.proofs.Small.{and_both, decide}
+use Rattle.cil_base.proofs.Small.{and_both, decide, equal}
 use Rattle.cil_model.specs.declared.body.Operand.{Operand}
 use Rattle.cil_model.specs.declared.body.Operand.TheVariants.{Nothing, Int, Index, Target, Targets, Tok}
 use Rattle.il_opcodes.specs.declared.opcode.Opcode.{Opcode}
@@ -70,9 +70,6 @@ pub record IsSpelling (code : ℕ) (operand : Operand) (o : Opcode) : Type 0 whe
   pub long : o.long ≡ code
   pub takes : takes o.operand operand ≡ true
   pub coded : coded o ≡ true
-
-equal : (m n : ℕ) → (m == n) ≡ true → m ≡ n
-equal m n h = grind (arith, common_steps)
 
 pub is_spelling : (code : ℕ) (operand : Operand) (o : Opcode) → spelling_of code operand ≡ Some o → IsSpelling code operand o
 unfolding opcode_of

@@ -1,6 +1,6 @@
 -- A valid body stays valid where instructions take the place of one.
-use Rattle.std.proofs.Common.{◌≡◌, ℕ, zero, suc, ◌+◌, ◌-◌, ◌<◌, ◌≤◌, Bool, true, false, not, ◌&&◌, List, [], ◌∷◌, ◌++◌, length, take, drop, map, Option, None, Some, refl, sym, ap, ◌∙◌, subst, arith, length-append, length-drop}
-use Rattle.std.specs.Prelude.{is_none, is_some, ℤ, pos}
+use Rattle.std.proofs.Common.{◌≡◌, ℕ, zero, suc, ◌+◌, ◌<◌, ◌≤◌, true, false, not, List, [], ◌∷◌, ◌++◌, length, take, drop, map, Option, None, Some, refl, sym, arith, length-append, length-drop}
+use Rattle.std.specs.Prelude.{is_none, pos}
 use Rattle.std.proofs.lemmas.List.{length-take}
 use Rattle.cil_base.proofs.Small.{and_both, not_true}
 use Rattle.cil_base.specs.declared.token.Token.{Token}
@@ -11,7 +11,7 @@ use Rattle.cil_model.specs.declared.body.Instr.{Instr}
 use Rattle.cil_model.specs.BodyCode.{instr}
 use Rattle.cil_model.specs.SmallBody.{AllPlain, has_target, is_plain}
 use Rattle.cil_model.specs.SmallMeaning.{is_branch}
-use Rattle.cil_model.specs.ValidBody.{AllBelow, AllValid, IsSmallToken, IsValidInstr, IsValidOperand, spelling_of}
+use Rattle.cil_model.specs.ValidBody.{AllBelow, AllValid, IsSmallToken, IsValidInstr, IsValidOperand}
 use Rattle.il_body.specs.BodyEncoding.{cases_in, weight, without_arguments}
 
 -- ---- more instructions

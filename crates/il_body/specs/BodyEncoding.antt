@@ -1,7 +1,6 @@
 -- The bytes that are written for a method body (ECMA-335, II.25.4 and III.1.9): each instruction in its shortest spelling, but branches and leave in the long one.
-use Rattle.std.specs.Prelude.{◌≡◌, ◌≤◌, ◌<◌, ℕ, zero, suc, ◌+◌, ◌-◌, ◌*◌, ◌%◌, ◌^◌, Bool, true, false, ◌==◌, ◌&&◌, not, nat_lt, nat_le, if◌then◌else◌, List, [], ◌∷◌, ◌++◌, length, get_or, slice_get, take, drop, map, flat_map, find, replicate, ℤ, pos, negsuc, Option, Some, None, IfSome, is_some, IsTrue, is_none}
+use Rattle.std.specs.Prelude.{◌≡◌, ◌≤◌, ℕ, zero, suc, ◌+◌, ◌-◌, ◌*◌, ◌%◌, ◌^◌, Bool, true, false, ◌==◌, ◌&&◌, not, nat_lt, nat_le, if◌then◌else◌, List, [], ◌∷◌, ◌++◌, length, get_or, slice_get, take, drop, map, flat_map, replicate, ℤ, Option, Some, None, is_none}
 use Rattle.std.specs.Int.{w8, w16, w32, w64, cast_unsigned, to_le_bytes}
-use Rattle.std.specs.Ordering.{int_eq}
 use Rattle.cil_base.specs.declared.token.Token.{Token}
 use Rattle.cil_base.specs.Tokens.{token_number}
 use Rattle.cil_base.specs.declared.rule.Rule.TheVariants.{L4}

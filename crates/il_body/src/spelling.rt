@@ -1,12 +1,12 @@
 // Which spelling an instruction has, and how many bytes it takes.
-ghost use Rattle.std.specs.Prelude.{◌≡◌, ◌<◌, ◌≤◌, ◌+◌, ◌*◌, ◌^◌, ℕ, length, [], IfSome, IsTrue};
+ghost use Rattle.std.specs.Prelude.{◌≡◌, ◌<◌, ◌≤◌, ◌+◌, ◌*◌, ◌^◌, ◌==◌, ◌&&◌, ℕ, find, length, [], IfSome, IsTrue};
 ghost use Rattle.cil_model.specs.BodyLayout.{bit};
 ghost use Rattle.cil_model.specs.ValidBody.{takes, takes_int, takes_index, takes_token, spelling_of};
 ghost use Rattle.il_body.specs.BodyEncoding.{AreShortest, code_bytes, flag_bytes, constrained_bytes, front_bytes, operand_bytes, int_bytes, index_bytes, instr_size, cases_in};
 
 use cil_base::Token;
 use cil_model::{Instr, Operand};
-use il_opcodes::{Opcode, OperandKind, opcodes};
+use il_opcodes::{Opcode, OperandKind, spellings_from};
 
 fn int_fits(kind: OperandKind, z: i64) -> bool
     ensures { result ≡ takes_int kind z }
@@ -58,14 +58,19 @@ fn says(kind: OperandKind, operand: &Operand) -> bool
     }
 }
 
+fn spelling_in(rows: &[Opcode], op: u16, operand: &Operand) -> Option<Opcode>
+    ensures { result ≡ find (λ o. (o.long == op) && takes o.operand operand.now) rows.now }
+{
+    rows.iter()
+        .copied()
+        .find(|o| o.long == op && says(o.operand, operand))
+}
+
 /// The first spelling in the table that says the instruction, which is the shortest.
 pub(crate) fn spelling(op: u16, operand: &Operand) -> Option<Opcode>
     ensures { result ≡ spelling_of op operand.now }
 {
-    opcodes()
-        .iter()
-        .copied()
-        .find(|o| o.long == op && says(o.operand, operand))
+    spelling_in(spellings_from(op), op, operand)
 }
 
 pub(crate) fn has_flag(value: u8, flags: u8) -> bool

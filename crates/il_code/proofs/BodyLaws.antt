@@ -1,7 +1,6 @@
 -- Bytes stand for one body, or break one rule first.
-use Rattle.std.proofs.Common.{◌≡◌, ◌≢◌, ◌⊎◌, ℕ, List, [], Option, Some, None, Result, Ok, Err, refl, sym, ap, ◌∙◌, subst, get_or, inl, inr}
+use Rattle.std.proofs.Common.{◌≡◌, ℕ, List, Option, Some, None, Result, Ok, Err, refl, sym, ◌∙◌, subst, get_or, inl, inr}
 use Rattle.std.specs.Prelude.{is_none, position, MatchOption, IfOk, OnOk}
-use Rattle.cil_base.specs.declared.rule.Rule.{Rule}
 use Rattle.cil_base.specs.declared.rule.Rule.TheVariants.{I3, I5}
 use Rattle.cil_base.specs.declared.refusal.Place.{Place}
 use Rattle.cil_base.specs.declared.refusal.Refusal.{Refusal}
@@ -15,7 +14,7 @@ use Rattle.cil_model.specs.declared.layout.Layout.{Layout}
 use Rattle.cil_model.specs.declared.layout.RawClause.{RawClause}
 use Rattle.cil_model.specs.BodyCode.{instr_at}
 use Rattle.cil_model.specs.BodyLayout.{layout_of, code_of}
-use Rattle.cil_model.specs.BodyOf.{BodyFault, CodeFault, IsBody, IsFault, IsSame, StandsFor, TargetFault, map_all, with_indexes, region_of, target_fault}
+use Rattle.cil_model.specs.BodyOf.{BodyFault, IsBody, IsFault, IsSame, StandsFor, map_all, with_indexes, region_of, target_fault}
 use Rattle.il_code.proofs.MappedLaws.{none_missing}
 use Rattle.il_code.proofs.InstrLaws.{none_read}
 use Rattle.il_code.proofs.ReadLaws.{never_broken, read_once, fault_once}

@@ -1,12 +1,12 @@
 -- One more code of an instruction.
-use Rattle.std.proofs.Common.{◌≡◌, ◌≢◌, ℕ, zero, suc, ◌+◌, ◌-◌, ◌<◌, ◌≤◌, List, [], ◌∷◌, length, drop, Option, Some, None, Result, Ok, Err, refl, sym, ap, ◌∙◌, arith, subst}
+use Rattle.std.proofs.Common.{◌≡◌, ℕ, zero, suc, ◌+◌, ◌-◌, ◌<◌, ◌≤◌, List, [], length, drop, Option, Some, None, Result, Ok, Err, refl, sym, ap, ◌∙◌, arith}
 use Rattle.std.proofs.lemmas.Grind.{common_steps}
 use Rattle.std.proofs.lemmas.List.{length-drop}
-use Rattle.std.specs.Prelude.{IfOk}
 use Rattle.std.specs.Int.RustNames.{bit_or}
+use Rattle.cil_base.proofs.Small.{nil_from_length}
 use Rattle.cil_base.specs.declared.token.Token.{Token}
 use Rattle.cil_base.specs.declared.rule.Rule.{Rule}
-use Rattle.cil_base.specs.declared.rule.Rule.TheVariants.{I1, I2}
+use Rattle.cil_base.specs.declared.rule.Rule.TheVariants.{I2}
 use Rattle.cil_base.specs.Numbers.{num_at}
 use Rattle.cil_base.specs.Tokens.{token_of}
 use Rattle.il_opcodes.specs.declared.opcode.Opcode.{Opcode}
@@ -16,15 +16,11 @@ use Rattle.cil_model.specs.declared.body.Instr.{Instr}
 use Rattle.cil_model.specs.BodyCode.{Reading}
 use Rattle.cil_model.specs.BodyCode.{opcode_at, prefixed, instr_at, behind, behind_code, with_operand, operand_at, with_type}
 
-pub no_more : (xs : List ℕ) → length xs ≡ 0 → xs ≡ []
-no_more [] h = refl
-no_more (x ∷ xs) h = absurd (omega arith)
-
 -- There are codes enough.
 pub step : (a at : ℕ) (bytes : List ℕ) (k : ℕ) (c : Option Token) (f taken : ℕ) → length bytes ≤ k + taken → prefixed a at bytes k c f taken ≡ behind_code (prefixed a at bytes (k - 1)) a at bytes c f taken (opcode_at (drop taken bytes))
 unfolding prefixed
 step a at bytes zero c f taken h =
-    let e = no_more (drop taken bytes) (omega (arith, length-drop taken bytes)) in
+    let e = nil_from_length (drop taken bytes) (omega (arith, length-drop taken bytes)) in
     rw e refl
 step a at bytes (suc k) c f taken h =
     let e : suc k - 1 ≡ k = omega arith in rw e refl
@@ -34,7 +30,7 @@ some_left bytes taken n o h = go (length bytes - taken) refl
   where
     go : (m : ℕ) → length bytes - taken ≡ m → taken < length bytes
     go zero e =
-        let z = no_more (drop taken bytes) (omega (arith, length-drop taken bytes, e)) in
+        let z = nil_from_length (drop taken bytes) (omega (arith, length-drop taken bytes, e)) in
         let bad : opcode_at [] ≡ Ok (o, n) = ap opcode_at (sym z) ∙ h in absurd cc
     go (suc m) e = omega arith
 
@@ -70,10 +66,6 @@ plain more a at c f taken code rest kind n m = refl
 pub other : (a at : ℕ) (bytes : List ℕ) (k : ℕ) (c : Option Token) (f taken : ℕ) (o : Opcode) (n : ℕ) → length bytes ≤ k + taken → prefixed a at bytes k c f taken ≡ instr_at a at bytes → opcode_at (drop taken bytes) ≡ Ok (o, n) → ((bit : ℕ) → o.operand ≡ op.Flag bit → ⊥) → (o.operand ≡ op.Constrained → ⊥) → instr_at a at bytes ≡ with_operand c f (taken + n) o.long (operand_at a (at + (taken + n)) o.operand (drop (taken + n) bytes))
 other a at bytes k c f taken o n enough e h no_flag no_type =
     behind_it a at bytes k c f taken o n o.operand enough e h refl ∙ plain (prefixed a at bytes (k - 1)) a at c f (taken + n) o.long (drop (taken + n) bytes) o.operand no_flag no_type
-
-pub if_ok : {T E : Type 0} (P Q : T → Type 0) → ((x : T) → P x → Q x) → (r : Result T E) → IfOk r P → IfOk r Q
-if_ok P Q f (Ok x) h = f x h
-if_ok P Q f (Err e) h = tt
 
 pub number_room : (bytes : List ℕ) (v : ℕ) → num_at bytes 0 4 ≡ Some v → 4 ≤ length bytes
 number_room bytes v h = grind (arith, common_steps)

@@ -1,7 +1,6 @@
 -- What a function gives of each element, one element after another.
-use Rattle.std.proofs.Common.{◌≡◌, ◌≢◌, ℕ, zero, suc, ◌+◌, ◌-◌, ◌<◌, ◌≤◌, Bool, true, false, List, [], ◌∷◌, ◌++◌, length, get_or, drop, take, Option, Some, None, refl, sym, ap, ◌∙◌, arith, append_assoc, add-one, drop-cons, lt-ltb, le-ltb, set, length-set, length-drop}
+use Rattle.std.proofs.Common.{◌≡◌, ℕ, zero, suc, ◌+◌, ◌<◌, true, false, List, [], ◌∷◌, ◌++◌, length, get_or, drop, take, Option, Some, None, refl, sym, ap, ◌∙◌, arith, append_assoc, add-one, drop-cons, lt-ltb, le-ltb, set, length-set}
 use Rattle.std.specs.Prelude.{is_none, position, MatchOption}
-use Rattle.std.specs.List.{position_or_len}
 use Rattle.std.proofs.lemmas.List.{drop-set-lt, get_or-drop, take_more_set}
 use Rattle.std.proofs.lemmas.List.Sums.{position_or_len_is}
 use Rattle.cil_model.specs.BodyOf.{map_all, and_all}

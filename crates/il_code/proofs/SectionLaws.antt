@@ -1,10 +1,10 @@
 -- Clauses and sections one after another.
-use Rattle.std.proofs.Common.{◌≡◌, ℕ, zero, suc, ◌+◌, ◌-◌, ◌*◌, ◌/◌, ◌<◌, ◌≤◌, Bool, true, false, ◌&&◌, cond, not, List, [], ◌∷◌, ◌++◌, length, Option, Some, None, refl, sym, ap, ◌∙◌, arith, add-one, subst, append_assoc}
+use Rattle.std.proofs.Common.{◌≡◌, ℕ, zero, suc, ◌+◌, ◌-◌, ◌*◌, ◌<◌, ◌≤◌, Bool, true, false, ◌&&◌, cond, not, List, [], ◌∷◌, ◌++◌, length, Option, Some, None, refl, sym, ap, ◌∙◌, arith, append_assoc}
 use Rattle.std.specs.Prelude.{nat_le}
 use Rattle.std.specs.List.{list_all}
 use Rattle.std.specs.Option.{option_map}
 use Rattle.std.proofs.lemmas.Grind.{common_steps}
-use Rattle.cil_base.specs.Numbers.{num_at}
+use Rattle.cil_base.proofs.Small.{not_true, not_false}
 use Rattle.cil_model.specs.declared.layout.RawClause.{RawClause}
 use Rattle.cil_model.specs.declared.layout.Section.{Section}
 use Rattle.cil_model.specs.BodyLayout.{aligned, before, clause_at, clauses, clauses_of, is_kind, section_at, sections_at, width, with_section}
@@ -55,14 +55,6 @@ section_step bytes (suc k) at h =
 pub end_before : (cs : List RawClause) (o : Option (List RawClause × ℕ)) → option_map (λ (x : List RawClause × ℕ). x.1) (before cs o) ≡ option_map (λ (x : List RawClause × ℕ). x.1) o
 end_before cs None = refl
 end_before cs (Some (ds, end)) = refl
-
-not_true : (b : Bool) → not b ≡ true → b ≡ false
-not_true true h = sym h
-not_true false h = refl
-
-not_false : (b : Bool) → not b ≡ false → b ≡ true
-not_false true h = refl
-not_false false h = sym h
 
 pub no_section : (bytes : List ℕ) (k at : ℕ) → length bytes ≤ k + at → section_at bytes (aligned at) ≡ None → sections_at bytes k at ≡ None
 no_section bytes k at enough none = section_step bytes k at enough ∙ ap (with_section (sections_at bytes (k - 1)) bytes) none

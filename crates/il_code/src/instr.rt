@@ -11,7 +11,7 @@ use il_opcodes::{Opcode, OperandKind, find_opcode};
 use std::alloc::{AllocError, Global};
 
 /// Why there is no instruction.
-#[derive(Debug, Drop)]
+#[derive(Drop)]
 pub(crate) enum ReadFault {
     Broken(Rule),
     Memory(AllocError),

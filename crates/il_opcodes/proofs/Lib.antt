@@ -1,1 +1,1 @@
-mod OpcodeLaws
+pub mod OpcodeLaws

@@ -1,8 +1,8 @@
 // An instruction and its mnemonic by a code.
 
-ghost use Rattle.std.specs.Prelude.{◌≡◌, ◌<◌, ◌≤◌, ◌-◌, ◌+◌, ◌^◌, ℕ, length, map, slice_get, slice_index, Option};
+ghost use Rattle.std.specs.Prelude.{◌≡◌, ◌<◌, ◌≤◌, ◌-◌, ◌+◌, ◌^◌, ℕ, drop, length, map, slice_get, slice_index, Option};
 ghost use Rattle.std.specs.Option.{option_map};
-ghost use Rattle.il_opcodes.specs.Opcodes.{the_indexes, the_mnemonics, index_of, opcode_of, mnemonic_of, code_of_slot};
+ghost use Rattle.il_opcodes.specs.Opcodes.{the_opcodes, the_indexes, the_first_spellings, first_spelling, the_mnemonics, index_of, opcode_of, mnemonic_of, code_of_slot};
 
 use crate::opcode::Opcode;
 use crate::table::opcodes;
@@ -24,6 +24,25 @@ static INDEXES: [u8; 288] = [
     207, 207, 207, 207, 207, 207, 207, 207, 207, 207, 207, 207, 207, 207, 207, 207, 207, 207, 207,
     207, 207, 207, 207, 207, 207, 207, 187, 188, 189, 190, 191, 192, 193, 207, 194, 195, 196, 197,
     198, 199, 207, 207, 207, 207, 200, 201, 202, 203, 207, 207, 207, 204, 207, 205, 207, 206, 207,
+];
+
+/// The index of the first spelling of the instruction whose longest one has the code of a slot.
+static FIRST_SPELLINGS: [u8; 288] = [
+    0, 1, 207, 207, 207, 207, 207, 207, 207, 207, 207, 207, 207, 207, 207, 207, 207, 207, 207, 207,
+    20, 207, 207, 207, 207, 207, 207, 207, 207, 207, 207, 207, 21, 33, 34, 35, 207, 36, 37, 207,
+    38, 207, 39, 207, 207, 207, 207, 207, 207, 207, 207, 207, 207, 207, 207, 207, 40, 41, 42, 43,
+    44, 45, 46, 47, 48, 49, 50, 51, 52, 66, 67, 68, 69, 70, 71, 72, 73, 74, 75, 76, 77, 78, 79, 80,
+    81, 82, 83, 84, 85, 86, 87, 88, 89, 90, 91, 92, 93, 94, 95, 96, 97, 98, 99, 100, 101, 102, 103,
+    104, 105, 106, 107, 108, 109, 110, 111, 112, 113, 114, 115, 207, 207, 116, 117, 118, 119, 120,
+    121, 122, 123, 124, 125, 126, 127, 128, 129, 130, 131, 132, 133, 134, 135, 136, 137, 138, 139,
+    140, 141, 142, 143, 144, 145, 146, 147, 148, 149, 150, 151, 152, 153, 154, 155, 156, 157, 158,
+    159, 160, 207, 207, 207, 207, 207, 207, 207, 207, 207, 207, 207, 207, 207, 161, 162, 163, 164,
+    165, 166, 167, 168, 207, 207, 207, 207, 207, 207, 207, 207, 169, 207, 207, 207, 207, 207, 207,
+    207, 207, 207, 207, 207, 207, 170, 171, 172, 173, 174, 175, 176, 177, 178, 179, 180, 181, 182,
+    183, 207, 185, 186, 207, 207, 207, 207, 207, 207, 207, 207, 207, 207, 207, 207, 207, 207, 207,
+    207, 207, 207, 207, 207, 207, 207, 207, 207, 207, 207, 207, 207, 207, 207, 207, 207, 187, 188,
+    189, 190, 191, 192, 193, 207, 2, 15, 16, 6, 18, 10, 207, 207, 207, 207, 200, 201, 202, 203,
+    207, 207, 207, 204, 207, 205, 207, 206, 207,
 ];
 
 /// The mnemonics, in the order of the table.
@@ -294,4 +313,44 @@ pub fn find_mnemonic(code: u16) -> Option<&'static str>
     ensures { option_map (λ s. s.now) result ≡ mnemonic_of code }
 {
     copy_text(mnemonics(), find_index(code))
+}
+
+fn first_spellings() -> &'static [u8]
+    ensures value { result.now ≡ the_first_spellings }
+    ensures count { length result.now ≡ 288 }
+{
+    &FIRST_SPELLINGS
+}
+
+fn first_at(slot: usize) -> usize
+    requires { slot < 288 }
+    ensures { result ≡ first_spelling (code_of_slot slot) }
+{
+    first_spellings()[slot] as usize
+}
+
+fn find_first(code: u16) -> usize
+    ensures { result ≡ first_spelling code }
+{
+    if code < 0x100 {
+        return first_at(code as usize);
+    }
+    if 0xFE00 <= code && code < 0xFE20 {
+        return first_at((code - 0xFE00) as usize + 0x100);
+    }
+    207
+}
+
+fn rows_from(items: &'static [Opcode], from: usize) -> &'static [Opcode]
+    ensures { result.now ≡ drop from items.now }
+{
+    &items[from.min(items.len())..]
+}
+
+/// The rows of the table from the first spelling on of the instruction whose longest one has this
+/// code.
+pub fn spellings_from(code: u16) -> &'static [Opcode]
+    ensures { result.now ≡ drop (first_spelling code) the_opcodes }
+{
+    rows_from(opcodes(), find_first(code))
 }

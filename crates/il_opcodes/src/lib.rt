@@ -8,6 +8,6 @@ mod opcode;
 mod table;
 
 pub use class::{BinaryOp, Bits, Class, Comparison, NumberKind, ShiftOp, Storage, UnaryOp};
-pub use find::{find_mnemonic, find_opcode};
+pub use find::{find_mnemonic, find_opcode, spellings_from};
 pub use opcode::{Opcode, OperandKind};
 pub use table::opcodes;

@@ -1,6 +1,6 @@
 // A body of many instructions, decoded and encoded again and again.
 ghost use Rattle.std.specs.Prelude.{◌≡◌, ◌+◌, ◌*◌, ◌<◌, ◌^◌, length, IfOk, OnOk};
-ghost use Rattle.il_body.specs.BodyEncoding.{IsValid};
+ghost use Rattle.cil_model.specs.ValidBody.{IsValid};
 
 use cil_base::{Fault, Place};
 use cil_model::Body;

@@ -1,15 +1,12 @@
-//! Makes samples and repeats calls on large inputs, for the scripts under tools/.
+//! Repeats calls on large inputs, for the scripts under tools/.
 //!
-//! `measure sample OUT` writes a program whose `Main` returns 7. `measure body N TIMES` decodes and
-//! encodes a body of N instructions TIMES times, and prints its length.
+//! `measure body N TIMES` decodes and encodes a body of N instructions TIMES times, and prints its
+//! length.
 #![tactic(auto)]
 
 mod body;
-mod sample;
 
 use body::repeat;
-use outside_core::{FileStore, Store};
-use sample::program;
 use std::process::ExitCode;
 use std::{env, io};
 
@@ -22,13 +19,6 @@ fn words_of(rt: &HostRuntime) -> io::Result<Vec<String>> {
     Ok(words)
 }
 
-/// Writes the sample. None where something fails.
-fn write_sample(rt: &HostRuntime, out: &str) -> Option<()> {
-    let bytes = program(rt.alloc()).ok()??;
-    let mut store = FileStore::new(rt);
-    store.replace(rt.alloc(), out, bytes.as_slice()).ok()
-}
-
 /// Measures bodies, and prints how long one is. None where something fails.
 fn measure_body(rt: &HostRuntime, instrs: &str, times: &str) -> Option<()> {
     let instrs = instrs.parse::<u32>().ok()?;
@@ -37,14 +27,8 @@ fn measure_body(rt: &HostRuntime, instrs: &str, times: &str) -> Option<()> {
     println!(rt; "body: {instrs} instructions, {len} bytes, {times} times").ok()
 }
 
-fn done(rt: &HostRuntime, words: &[String]) -> Option<()> {
+fn run(rt: &HostRuntime, words: &[String]) -> Option<()> {
     match words {
-        [command, out] => {
-            if command.as_str() != "sample" {
-                return None;
-            }
-            write_sample(rt, out.as_str())
-        }
         [command, instrs, times] => {
             if command.as_str() != "body" {
                 return None;
@@ -58,7 +42,7 @@ fn done(rt: &HostRuntime, words: &[String]) -> Option<()> {
 fn main(rt: HostRuntime) -> ExitCode {
     match words_of(&rt) {
         Err(_) => ExitCode::from(2),
-        Ok(words) => match done(&rt, words.as_slice()) {
+        Ok(words) => match run(&rt, words.as_slice()) {
             Some(()) => ExitCode::from(0),
             None => ExitCode::from(2),
         },

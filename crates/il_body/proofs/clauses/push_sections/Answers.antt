@@ -1,4 +1,4 @@
-use Rattle.std.proofs.Common.{◌-◌, ◌%◌, arith}
+use Rattle.std.proofs.Common.{arith}
 use Rattle.il_body.specs.BodyEncoding.{clause_of}
 use Rattle.il_body.proofs.PushLaws.{behind}
 use Rattle.il_body.proofs.clauses.push_sections.Goals as goal

@@ -3,7 +3,7 @@ use Rattle.std.proofs.lemmas.Bool.{leb-true}
 use Rattle.cil_model.specs.declared.body.Instr.{Instr}
 use Rattle.cil_model.specs.BodyOf.{StandsFor}
 use Rattle.cil_model.specs.ValidBody.{AllValid, AllValidRegions}
-use Rattle.il_body.specs.BodyEncoding.{as_encoded, behind_code, body_bytes, clause_of, code_bytes_of, code_from, weight, fits_tiny, header_bytes, starts}
+use Rattle.il_body.specs.BodyEncoding.{as_encoded, behind_code, clause_of, code_bytes_of, code_from, weight, fits_tiny, header_bytes, starts}
 use Rattle.il_body.proofs.WholeLaws.{body_back, more_places, put_together, small_whole, tiny_form}
 use Rattle.il_body.proofs.encode.encode_body.Goals as goal
 

@@ -1,7 +1,5 @@
-use Rattle.std.proofs.Common.{◌≡◌, ℕ, ◌+◌, ◌-◌, ◌<◌, ◌≤◌, arith, length, [], ◌∷◌, ◌++◌, drop, Ok, sym, ap, ◌∙◌, length-append, List}
+use Rattle.std.proofs.Common.{◌≡◌, ℕ, ◌+◌, ◌<◌, ◌≤◌, arith, length, [], ◌∷◌, drop, Ok, sym, ap, ◌∙◌, length-append, List}
 use Rattle.std.proofs.lemmas.List.{length-drop, drop-drop}
-use Rattle.cil_model.specs.declared.body.Instr.{Instr}
-use Rattle.cil_model.specs.BodyCode.{Reads}
 use Rattle.il_code.specs.Answers.{reader_of}
 use Rattle.il_code.proofs.ReadLaws.{read_more, below_more, rise_more}
 use Rattle.il_code.proofs.code.read_code.Goals as goal

@@ -1,11 +1,9 @@
-use Rattle.std.proofs.Common.{◌≡◌, ℕ, List, Option, Some, [], get_or, inl, inr, sym, ap, ◌∙◌}
+use Rattle.std.proofs.Common.{◌≡◌, ℕ, List, Some, get_or, inr, sym, ap, ◌∙◌}
 use Rattle.std.specs.Prelude.{is_none, position}
 use Rattle.cil_base.specs.declared.rule.Rule.TheVariants.{I3}
 use Rattle.cil_base.specs.Refusals.{refusal}
 use Rattle.cil_model.specs.declared.body.Instr.{Instr}
-use Rattle.cil_model.specs.declared.layout.RawClause.{RawClause}
-use Rattle.cil_model.specs.BodyCode.{Reads}
-use Rattle.cil_model.specs.BodyOf.{map_all, with_indexes, region_of, target_fault}
+use Rattle.cil_model.specs.BodyOf.{map_all, with_indexes, region_of}
 use Rattle.il_code.proofs.BodyLaws.{branch_fault}
 use Rattle.il_code.proofs.decode.decode_code.Goals as goal
 

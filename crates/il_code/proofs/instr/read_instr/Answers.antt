@@ -1,11 +1,11 @@
-use Rattle.std.proofs.Common.{◌≡◌, ℕ, ◌+◌, ◌-◌, ◌<◌, ◌≤◌, arith, refl, sym, ap, ◌∙◌, subst, length, drop, Ok, Err, Result, Option, Some, None, List}
+use Rattle.std.proofs.Common.{◌≡◌, ℕ, ◌+◌, ◌-◌, ◌<◌, ◌≤◌, arith, refl, sym, ap, ◌∙◌, subst, length, drop, Ok, Err, Some, None, List}
 use Rattle.std.proofs.lemmas.List.{length-drop}
-use Rattle.cil_base.specs.declared.token.Token.{Token}
 use Rattle.cil_base.specs.Numbers.{num_at}
 use Rattle.cil_model.specs.declared.body.Instr.{Instr}
-use Rattle.cil_model.specs.BodyCode.{opcode_at, operand_at, prefixed, instr_at, with_operand}
+use Rattle.cil_model.specs.BodyCode.{opcode_at, operand_at, instr_at, with_operand}
+use Rattle.cil_base.proofs.Small.{if_ok}
 use Rattle.il_code.specs.Answers.{Gives}
-use Rattle.il_code.proofs.InstrLaws.{broken, flagged, cut, typed, other, some_left, if_ok, number_room}
+use Rattle.il_code.proofs.InstrLaws.{broken, flagged, cut, typed, other, some_left, number_room}
 use Rattle.il_code.proofs.instr.read_instr.Goals as goal
 
 pub codes-init : goal.codes-init
@@ -68,5 +68,5 @@ returns-in_default c =
     let e : with_operand c.codes.constrained c.codes.flags taken read.0.long (operand_at c.args.assembly (c.args.at + taken) read.0.operand c.bytes_from-rest.result.now) ≡ instr_at c.args.assembly c.args.at bytes = ap (λ (l : List ℕ). with_operand c.codes.constrained c.codes.flags taken read.0.long (operand_at c.args.assembly (c.args.at + taken) read.0.operand l)) c.bytes_from-rest.ensures ∙ sym all in
     record {
       value = subst (Gives c.finish.result) e c.finish.ensures.value;
-      within = if_ok (λ (x : Instr × ℕ). (taken ≤ x.1) × (x.1 ≤ taken + length c.bytes_from-rest.result.now)) (λ (x : Instr × ℕ). (0 < x.1) × (x.1 ≤ length bytes)) (λ x w. (omega arith, omega (arith, w, size, room, length-drop c.codes.taken bytes, length-drop taken bytes))) c.finish.result c.finish.ensures.within;
+      within = if_ok (λ (x : Instr × ℕ). (taken ≤ x.1) × (x.1 ≤ taken + length c.bytes_from-rest.result.now)) (λ (x : Instr × ℕ). (0 < x.1) × (x.1 ≤ length bytes)) c.finish.result (λ x w. (omega arith, omega (arith, w, size, room, length-drop c.codes.taken bytes, length-drop taken bytes))) c.finish.ensures.within;
     }

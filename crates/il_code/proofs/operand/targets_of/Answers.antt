@@ -1,5 +1,4 @@
-use Rattle.std.proofs.Common.{◌≡◌, ◌∙◌, ap, ◌++◌, ◌∷◌, [], List, ℕ, ◌+◌, ◌*◌, add-one, suc}
-use Rattle.cil_base.specs.Numbers.{num}
+use Rattle.std.proofs.Common.{◌∙◌, ap, ◌++◌, ◌∷◌, [], List, ℕ, add-one}
 use Rattle.cil_model.specs.BodyCode.{cases, landing}
 use Rattle.il_code.proofs.operand.targets_of.Goals as goal
 

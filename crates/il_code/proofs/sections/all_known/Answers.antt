@@ -1,4 +1,4 @@
-use Rattle.std.proofs.Common.{◌≡◌, ◌+◌, ◌*◌, ◌≤◌, ℕ, Bool, false, suc, arith, sym, ap, ◌∙◌}
+use Rattle.std.proofs.Common.{◌≡◌, ◌+◌, ◌*◌, ℕ, false, suc, arith, sym, ap, ◌∙◌}
 use Rattle.cil_model.specs.BodyLayout.{clause_at, is_kind, width}
 use Rattle.il_code.proofs.SectionLaws.{one_more, stays_false}
 use Rattle.il_code.proofs.sections.all_known.Goals as goal

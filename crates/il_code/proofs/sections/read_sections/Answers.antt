@@ -1,4 +1,4 @@
-use Rattle.std.proofs.Common.{◌≡◌, ◌+◌, ◌-◌, ◌≤◌, ◌++◌, [], ℕ, List, Bool, true, false, Option, Some, None, arith, refl, sym, ap, ◌∙◌, length}
+use Rattle.std.proofs.Common.{◌≡◌, ◌-◌, List, Some, None, arith, sym, ap, ◌∙◌, length}
 use Rattle.cil_model.specs.declared.layout.RawClause.{RawClause}
 use Rattle.cil_model.specs.BodyLayout.{aligned, before, clauses_of, section_at, sections_at}
 use Rattle.il_code.proofs.SectionLaws.{no_section, unknown, last, next, room_left, before-append, before-none}

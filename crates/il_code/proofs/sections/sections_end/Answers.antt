@@ -1,8 +1,7 @@
-use Rattle.std.proofs.Common.{◌≡◌, ◌+◌, ◌-◌, ◌≤◌, ℕ, List, Bool, true, false, Option, Some, None, arith, refl, sym, ap, ◌∙◌, length}
-use Rattle.std.specs.List.{list_all}
+use Rattle.std.proofs.Common.{◌≡◌, ◌-◌, ℕ, List, Option, Some, None, arith, refl, sym, ap, ◌∙◌, length}
 use Rattle.std.specs.Option.{option_map}
 use Rattle.cil_model.specs.declared.layout.RawClause.{RawClause}
-use Rattle.cil_model.specs.BodyLayout.{aligned, clauses_of, is_kind, section_at, sections_at}
+use Rattle.cil_model.specs.BodyLayout.{aligned, clauses_of, section_at, sections_at}
 use Rattle.il_code.proofs.SectionLaws.{no_section, unknown, last, next, room_left, end_before}
 use Rattle.il_code.proofs.sections.sections_end.Goals as goal
 

@@ -1,4 +1,4 @@
-use Rattle.std.proofs.Common.{◌≡◌, List, ℕ, Some, refl, sym, ◌∙◌}
+use Rattle.std.proofs.Common.{◌≡◌, Some, refl, sym, ◌∙◌}
 use Rattle.cil_base.proofs.RefusalLaws.{IfRefused-weaker}
 use Rattle.cil_model.specs.SmallBody.{tiny_code}
 use Rattle.il_code.proofs.SmallLaws.{small_body, code_few, read_again, no_fault, no_header, first_fault}

@@ -1,4 +1,4 @@
-use Rattle.std.proofs.Common.{◌≡◌, ◌≢◌, ◌∙◌, sym}
+use Rattle.std.proofs.Common.{sym}
 use Rattle.il_code.proofs.PlaceLaws.{end_there}
 use Rattle.il_code.proofs.targets.end_index_in.Goals as goal
 

@@ -1,4 +1,4 @@
-use Rattle.std.proofs.Common.{◌≡◌, ◌<◌, ◌≤◌, ◌^◌, ℕ, List, Option, Some, None, Ok, Err, arith, sym, ap, ◌∙◌, get_or}
+use Rattle.std.proofs.Common.{Ok, Err, arith, sym}
 use Rattle.il_code.proofs.PlaceLaws.{missing, searched_place}
 use Rattle.il_code.proofs.targets.index_in.Goals as goal
 

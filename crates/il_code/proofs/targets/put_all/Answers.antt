@@ -1,7 +1,7 @@
-use Rattle.std.proofs.Common.{◌≡◌, ◌<◌, ◌+◌, ℕ, List, Option, Some, None, arith, sym, ap, ◌∙◌, get_or, length, drop, take, refl}
+use Rattle.std.proofs.Common.{◌≡◌, Some, None, arith, sym, ap, ◌∙◌, get_or}
 use Rattle.std.specs.Prelude.{is_none, position}
 use Rattle.cil_model.specs.declared.body.Instr.{Instr}
-use Rattle.cil_model.specs.BodyOf.{map_all, with_indexes}
+use Rattle.cil_model.specs.BodyOf.{with_indexes}
 use Rattle.il_code.proofs.MappedLaws.{first_none, same_at, refused}
 use Rattle.il_code.proofs.targets.put_all.Goals as goal
 

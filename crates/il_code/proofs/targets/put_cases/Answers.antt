@@ -1,6 +1,6 @@
-use Rattle.std.proofs.Common.{◌≡◌, ◌<◌, ◌+◌, ℕ, List, Option, Some, None, arith, sym, ap, ◌∙◌, get_or, set, length, drop, take, refl}
-use Rattle.cil_model.specs.BodyOf.{map_all, index_of}
-use Rattle.il_code.proofs.MappedLaws.{after, put_none, put_one}
+use Rattle.std.proofs.Common.{◌≡◌, ℕ, List, Some, None, arith, sym, ap, ◌∙◌, get_or, refl}
+use Rattle.cil_model.specs.BodyOf.{index_of}
+use Rattle.il_code.proofs.MappedLaws.{put_none, put_one}
 use Rattle.il_code.proofs.targets.put_cases.Goals as goal
 
 pub returns-in_default : goal.returns-in_default
