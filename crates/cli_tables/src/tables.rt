@@ -11,7 +11,7 @@ ghost use Rattle.cli_tables.specs.Stream.{kind_of};
 ghost use Rattle.cli_tables.specs.Layout.{tables_in};
 ghost use Rattle.cli_tables.specs.Growth.{table_full};
 ghost use Rattle.cli_tables.specs.declared.sizes.Sizes.{Sizes};
-ghost use Rattle.cli_tables.specs.Written.{counts_to, is_many, sizes_to, stream_in, column_fits, table_fits, indexes_fit, row_fits, Grows, NoneFull, IsRefused, FitsLimits, AreOfOne, Holds};
+ghost use Rattle.cli_tables.specs.Written.{counts_to, is_many, sizes_to, stream_in, column_fits, table_fits, indexes_fit, row_fits, Grows, NoneFull, IsOverfull, IsRefused, FitsLimits, AreOfOne, Holds};
 ghost use Rattle.cil_base.specs.Bytes.{padded};
 ghost use Rattle.heap_writer.specs.Written.{parts, written_root, GrewFrom, IsWritten, EntriesRead, limit_tests};
 
@@ -186,6 +186,8 @@ impl Tables {
         ensures limits { OnOk result (NoneBroken (Fails (limit_tests heaps.now.bytes grown.now (stream_in heaps.now.bytes grown.now self.now)))) }
         ensures short { OnOk result (length (written_root heaps.now.bytes (parts heaps.now.bytes grown.now (stream_in heaps.now.bytes grown.now self.now))) ≤ 2 ^ 27) }
         ensures refused { OnRefused result (IsRefused heaps.now.bytes grown.now self.now) }
+        // A table that is too long is named before all else.
+        ensures full { OnRefused result (λ r. IsOverfull self.now r ⊎ NoneFull self.now) }
         ensures memory { OnMemory result (FitsLimits heaps.now.bytes grown.now self.now) }
     {
         if let Some(table) = self.first_full() {

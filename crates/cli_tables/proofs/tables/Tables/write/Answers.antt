@@ -1,4 +1,5 @@
 use Rattle.std.proofs.Common.{◌∙◌, ℕ, List, sym, subst, inr, arith}
+use Rattle.cil_base.proofs.RefusalLaws.{OnRefused-weaker}
 use Rattle.heap_writer.proofs.LimitLaws.{limit_passed, within_limits}
 use Rattle.cli_tables.specs.Written.{Holds, stream_in}
 use Rattle.cli_tables.specs.Tables.{IsShaped}
@@ -62,3 +63,9 @@ returns-in_err-stream-clause-memory c =
           (size_written c.args.heaps.now.bytes c.tables-old.result.now c.args.grown.now c.args.self.now c.written_sizes-sizes.result c.stream_size.result
           c.tables-old.ensures.bytes (omega (arith, c.tables-old.ensures.whole)) (subst IsShaped c.self.view_is c.self.invariant) c.requires.fit c.written_sizes-sizes.ensures c.stream_size.ensures)),
     )
+
+pub returns-in-Some-first_limit-clause-full : goal.returns-in-Some-first_limit-clause-full
+returns-in-Some-first_limit-clause-full c = inr c.in_default.ensures
+
+pub returns-clause-full : goal.returns-clause-full
+returns-clause-full c = OnRefused-weaker c.write_metadata.result _ _ (λ r x. inr c.in_default.ensures) c.write_metadata.ensures.refused

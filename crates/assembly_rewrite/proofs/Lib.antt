@@ -1,0 +1,2 @@
+pub mod ContractLaws
+pub mod RewriteLaws

@@ -1,5 +1,0 @@
-use Rattle.ccrewrite.proofs.ContractLaws.{NoneBefore}
-use Rattle.ccrewrite.proofs.contract_rows.first_row.Given as goal
-
-abbrev pub invariant-loop-k : goal.invariant-loop-k
-invariant-loop-k l = NoneBefore l.heaps.bytes l.places l.k

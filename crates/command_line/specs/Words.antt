@@ -1,0 +1,65 @@
+-- Which words are a command's.
+use Rattle.std.specs.Prelude.{◌≡◌, ℕ, true, false, if◌then◌else◌, List, [], ◌∷◌, Option, Some, None, codes}
+use Rattle.std.specs.Str.{bytes_eq}
+use Rattle.std.specs.Option.{unwrap_or}
+use Rattle.cil_model.specs.declared.contract.Level.{Level}
+use Rattle.cil_model.specs.declared.contract.Level.TheVariants.{NoChecks, ReleaseRequires, Preconditions, PreAndPost, Full}
+use Rattle.cil_model.specs.declared.contract.Settings.{Settings}
+use Rattle.command_line.specs.declared.options.OptionName.{OptionName}
+use Rattle.command_line.specs.declared.options.OptionName.TheVariants as option
+use Rattle.command_line.specs.declared.words.Command.{Command}
+use Rattle.command_line.specs.declared.words.Command.TheVariants.{Body, Rewrite}
+use Rattle.command_line.specs.Options.{number_of, value_of, positionals, wrong_behind}
+
+abbrev pub rewrite_options : List OptionName
+rewrite_options = option.Level ∷ option.Guard ∷ option.Out ∷ []
+
+-- the first wrong word by its place, or the number of words where one is missing
+abbrev pub wrong_word : List (List ℕ) → Option ℕ
+wrong_word [] = Some 0
+wrong_word (c ∷ words) =
+    if bytes_eq c (codes "body") then wrong_behind [] 2 words
+    else if bytes_eq c (codes "rewrite") then wrong_behind rewrite_options 1 words
+    else Some 0
+
+-- the words of a rewriting of one body
+pub record IsBodyCommand (words : List (List ℕ)) (input output : List ℕ) : Type 0 where
+  pub right : wrong_word words ≡ None
+  pub is : words ≡ codes "body" ∷ input ∷ output ∷ []
+
+-- ---- the rewriting of an assembly
+
+abbrev pub level_number : Level → ℕ
+level_number NoChecks = 0
+level_number ReleaseRequires = 1
+level_number Preconditions = 2
+level_number PreAndPost = 3
+level_number Full = 4
+
+-- the number that an option's value writes, or the default where the option isn't there
+abbrev pub number_or : ℕ → ℕ → Option (List ℕ) → ℕ
+number_or max default None = default
+number_or max default (Some text) = unwrap_or (number_of max text) default
+
+-- the settings that the words behind the command tell
+pub record AreSettings (words : List (List ℕ)) (settings : Settings) : Type 0 where
+  pub level_is : level_number settings.level ≡ number_or 4 4 (value_of (codes "--level") words)
+  pub guard_is : settings.guard ≡ number_or 100 4 (value_of (codes "--guard") words)
+  pub throwing_is : settings.throwing ≡ true
+  pub surface_is : settings.surface ≡ false
+  pub callsite_is : settings.callsite ≡ false
+
+pub record IsRewriteCommand (words : List (List ℕ)) (settings : Settings) (output target : List ℕ) : Type 0 where
+  pub right : wrong_word words ≡ None
+  pub behind : List (List ℕ)
+  pub is : words ≡ codes "rewrite" ∷ behind
+  pub settings_are : AreSettings behind settings
+  pub out_is : value_of (codes "--out") behind ≡ Some output
+  pub target_is : positionals behind ≡ target ∷ []
+
+-- ---- both
+
+-- The words are those of this command, which reads one file and writes the other.
+abbrev pub IsCommand : List (List ℕ) → Command → List ℕ → List ℕ → Type 0
+IsCommand words Body input output = IsBodyCommand words input output
+IsCommand words (Rewrite settings) input output = IsRewriteCommand words settings output input

@@ -1,0 +1,4 @@
+pub mod Layers
+pub mod Program
+pub mod Process
+pub mod Replies

@@ -1,0 +1,248 @@
+// The program's commands.
+ghost use Rattle.std.specs.Prelude.{◌≡◌, ◌≢◌, ◌⊎◌, ℕ, ◌≤◌, List, length, IfOk, IsOkAnd, OnOk, IsTrue, IsSome, string_bytes};
+ghost use Rattle.cil_base.specs.Causes.{Rose};
+ghost use Rattle.cil_base.specs.Refusals.{OnRefused};
+ghost use Rattle.outside_core.specs.Store.{SameFiles};
+ghost use Rattle.command_line.specs.Options.{texts};
+ghost use Rattle.command_line.specs.Words.{wrong_word, IsCommand};
+ghost use Rattle.command_line.specs.Text.{done_text, rewrite_text, refusal_text, words_text, store_text};
+ghost use Rattle.command_line.specs.declared.words.Command.{Command};
+ghost use Rattle.body_splice.specs.Rewrite.{IsRewriting, KeepsBodyRules, IsBodyRefusal};
+ghost use Rattle.assembly_rewrite.specs.Rewrite.{KeepsRows, IsAssemblyRefusal, KeepsAssemblyRules};
+ghost use Rattle.program.specs.Layers.{size_limit, too_long};
+ghost use Rattle.program.specs.Program.{IsMade, IsInnerRefusal, KeepsInnerRules, PutsFile, FromBytes, FileAnswer, Answer, Puts, Expected};
+ghost use Rattle.program.specs.Replies.{Replied};
+
+use assembly_rewrite::rewrite_bytes;
+use body_splice::rewrite_body;
+use cil_base::{Bytes, Fault, Refusal, Rule};
+use command_line::{
+    Command, Request, command_of, text_of_done, text_of_refusal, text_of_rewrite, text_of_store,
+    text_of_words,
+};
+use outside_core::{ReadRefusal, Sink, Store, StoreRefusal};
+use std::alloc::{AllocError, Global};
+
+/// The most bytes that a file may have.
+const SIZE_LIMIT: u64 = 64 << 20;
+
+/// What a command makes of a file: the bytes, and the text that says so.
+#[derive(Drop)]
+struct Output {
+    bytes: Bytes,
+    text: String,
+}
+
+fn make_from_body(alloc: Global, bytes: &[u8]) -> Result<Output, Fault>
+    ensures done { IfOk result (λ made. (clauses : ℕ) × IsRewriting bytes.now made.bytes clauses × (string_bytes made.text ≡ done_text clauses)) }
+    ensures accepted { OnOk result (KeepsBodyRules bytes.now) }
+    ensures refused { OnRefused result (IsBodyRefusal bytes.now) }
+{
+    let body = match rewrite_body(alloc, bytes) {
+        Ok(body) => body,
+        Err(fault) => return Err(fault),
+    };
+    Ok(Output {
+        text: text_of_done(alloc, body.clauses)?,
+        bytes: body.bytes,
+    })
+}
+
+/// An assembly without contracts is rewritten alike at each level and guard.
+fn make_from_assembly(alloc: Global, bytes: &[u8]) -> Result<Output, Fault>
+    requires { length bytes.now ≤ size_limit }
+    ensures done { IfOk result (λ made. KeepsRows bytes.now 0 made.bytes × (string_bytes made.text ≡ rewrite_text 1 0 0)) }
+    ensures accepted { OnOk result (KeepsAssemblyRules bytes.now 0) }
+    ensures refused { OnRefused result (IsAssemblyRefusal bytes.now 0) }
+{
+    let rewritten = match rewrite_bytes(alloc, bytes) {
+        Ok(rewritten) => rewritten,
+        Err(fault) => return Err(fault),
+    };
+    Ok(Output {
+        text: text_of_rewrite(alloc, 1, 0, 0)?,
+        bytes: rewritten,
+    })
+}
+
+/// What the command makes of the bytes of its file.
+fn make_output(alloc: Global, command: Command, bytes: &[u8]) -> Result<Output, Fault>
+    requires { length bytes.now ≤ size_limit }
+    ensures done { IfOk result (λ made. IsMade command bytes.now made.bytes (string_bytes made.text)) }
+    ensures accepted { OnOk result (KeepsInnerRules command bytes.now) }
+    ensures refused { OnRefused result (IsInnerRefusal command bytes.now) }
+{
+    match command {
+        Command::Body => make_from_body(alloc, bytes),
+        Command::Rewrite(_) => make_from_assembly(alloc, bytes),
+    }
+}
+
+/// A status, and the text that goes with it.
+#[derive(Drop)]
+struct Reply {
+    status: u8,
+    text: String,
+}
+
+fn reply_refusal(alloc: Global, r: Refusal) -> Result<Reply, AllocError>
+    ensures { IfOk result (λ a. (a.status ≡ 1) × (string_bytes a.text ≡ refusal_text r)) }
+{
+    Ok(Reply {
+        status: 1,
+        text: text_of_refusal(alloc, r)?,
+    })
+}
+
+fn reply_store(alloc: Global, name: &str) -> Result<Reply, AllocError>
+    ensures { IfOk result (λ a. (a.status ≡ 3) × (string_bytes a.text ≡ store_text name.now)) }
+{
+    Ok(Reply {
+        status: 3,
+        text: text_of_store(alloc, name)?,
+    })
+}
+
+/// Puts what is made under the name. The text is there already, so want of memory leaves the files.
+fn put_output<S: Store>(
+    alloc: Global,
+    store: &mut S,
+    output: &str,
+    made: Output,
+) -> Result<Reply, AllocError>
+    ensures done { IfOk result (λ a. a.status ≡ 0 → (string_bytes a.text ≡ string_bytes made.text) × (S.faults store.new ≡ S.faults store.old) × (IsTrue (S.tells store.old) → PutsFile (S.file store.old) (S.file store.new) output.now made.bytes)) }
+    ensures failed { IfOk result (λ a. a.status ≡ 3 → (string_bytes a.text ≡ store_text output.now) × Rose (S.faults store.old) (S.faults store.new)) }
+    ensures kept { IsOkAnd result (λ a. a.status ≡ 0) ⊎ (IsTrue (S.tells store.old) → SameFiles (S.file store.old) (S.file store.new)) }
+    ensures only { IfOk result (λ a. (a.status ≡ 0) ⊎ (a.status ≡ 3)) }
+    ensures steady { IsTrue (S.steady store.old) → S.faults store.new ≡ S.faults store.old }
+{
+    let Output { bytes, text } = made;
+    match store.replace(alloc, output, bytes.as_slice()) {
+        Ok(()) => Ok(Reply { status: 0, text }),
+        Err(StoreRefusal::Failed) => reply_store(alloc, output),
+        Err(StoreRefusal::Memory(e)) => Err(e),
+    }
+}
+
+/// Does the command on the bytes that were read, and puts the result under the name.
+fn answer_bytes<S: Store>(
+    alloc: Global,
+    command: Command,
+    bytes: &[u8],
+    output: &str,
+    store: &mut S,
+) -> Result<Reply, AllocError>
+    requires { length bytes.now ≤ size_limit }
+    ensures answer { Replied (FromBytes command (S.tells store.old) (S.file store.old) (S.file store.new) (S.faults store.old) (S.faults store.new) bytes.now output.now) result }
+    ensures steady { IsTrue (S.steady store.old) → S.faults store.new ≡ S.faults store.old }
+{
+    match make_output(alloc, command, bytes) {
+        Err(Fault::Refused(r)) => reply_refusal(alloc, r),
+        Err(Fault::Memory(e)) => Err(e),
+        Ok(made) => put_output(alloc, store, output, made),
+    }
+}
+
+/// The refusal of a file that is too long.
+fn refusal_of_size() -> Refusal
+    ensures { result ≡ too_long }
+{
+    Refusal {
+        rule: Rule::L1,
+        assembly: 0,
+        table: 0,
+        row: 0,
+        at: 67_108_865,
+    }
+}
+
+/// Does the command: what it makes of one file is put into the other.
+fn answer_files<S: Store>(
+    alloc: Global,
+    command: Command,
+    input: &str,
+    output: &str,
+    store: &mut S,
+) -> Result<Reply, AllocError>
+    ensures answer { Replied (FileAnswer command (S.tells store.old) (S.file store.old) (S.file store.new) (S.faults store.old) (S.faults store.new) input.now output.now) result }
+    ensures steady { IsTrue (S.steady store.old) → S.faults store.new ≡ S.faults store.old }
+{
+    match store.read_all(alloc, input, SIZE_LIMIT) {
+        Err(ReadRefusal::Failed) => reply_store(alloc, input),
+        Err(ReadRefusal::TooLong) => reply_refusal(alloc, refusal_of_size()),
+        Err(ReadRefusal::Memory(e)) => Err(e),
+        Ok(bytes) => answer_bytes(alloc, command, bytes.as_slice(), output, store),
+    }
+}
+
+fn reply_words(alloc: Global, k: usize) -> Result<Reply, AllocError>
+    ensures { IfOk result (λ a. (a.status ≡ 2) × (string_bytes a.text ≡ words_text k)) }
+{
+    Ok(Reply {
+        status: 2,
+        text: text_of_words(alloc, k)?,
+    })
+}
+
+/// Does what the words ask for, and makes the text.
+fn answer_words<S: Store>(
+    alloc: Global,
+    words: &[String],
+    store: &mut S,
+) -> Result<Reply, AllocError>
+    ensures answer { Replied (Answer (S.tells store.old) (S.file store.old) (S.file store.new) (S.faults store.old) (S.faults store.new) (texts words.now)) result }
+    ensures steady { IsTrue (S.steady store.old) → S.faults store.new ≡ S.faults store.old }
+    ensures untouched { IsSome (wrong_word (texts words.now)) → store.new ≡ store.old }
+{
+    match command_of(words) {
+        Err(k) => reply_words(alloc, k),
+        Ok(request) => {
+            let Request {
+                command,
+                input,
+                output,
+            } = request;
+            answer_files(alloc, command, input, output, store)
+        }
+    }
+}
+
+/// Does what the words ask for, puts the text, and answers the exit status: 0 done, 1 a rule is
+/// broken, 2 the words are wrong, 3 a file can't be read or written, 4 the text can't be put, 5
+/// want of memory.
+pub fn run_words<S: Store, W: Sink>(
+    alloc: Global,
+    words: &[String],
+    store: &mut S,
+    out: &mut W,
+) -> u8
+    // What each status means, for the files, the count of faults and the text.
+    ensures answer { (status : ℕ) × (text : List ℕ)
+        × Answer (S.tells store.old) (S.file store.old) (S.file store.new) (S.faults store.old) (S.faults store.new) (texts words.now) status text
+        × Puts (W.tells out.old) (W.taken out.old) (W.taken out.new) (W.faults out.old) (W.faults out.new) (W.room out.old) text status result }
+
+    // Where no fault is counted, what the file that is read holds tells the status.
+    ensures complete { (command : Command) → (input output : List ℕ) → IsCommand (texts words.now) command input output → IsTrue (S.tells store.old)
+        → ¬ Rose (S.faults store.old) (S.faults store.new) → ¬ Rose (W.faults out.old) (W.faults out.new)
+        → Expected command (S.file store.old input) result }
+
+    // At a steady store no fault is counted, and wrong words ask nothing of any store.
+    ensures steady { IsTrue (S.steady store.old) → S.faults store.new ≡ S.faults store.old }
+    ensures untouched { IsSome (wrong_word (texts words.now)) → store.new ≡ store.old }
+{
+    match answer_words(alloc, words, store) {
+        Err(_) => put_text(out, b"memory\n", 5),
+        Ok(reply) => put_text(out, reply.text.as_bytes(), reply.status),
+    }
+}
+
+/// Puts the text, and answers the status, or 4 where the sink fails.
+pub(crate) fn put_text<W: Sink>(out: &mut W, text: &[u8], status: u8) -> u8
+    requires { status ≢ 4 }
+    ensures { Puts (W.tells out.old) (W.taken out.old) (W.taken out.new) (W.faults out.old) (W.faults out.new) (W.room out.old) text.now status result }
+{
+    match out.put(text) {
+        Ok(()) => status,
+        Err(_) => 4,
+    }
+}

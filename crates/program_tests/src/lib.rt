@@ -1,0 +1,7 @@
+//! Tests of whole commands over files and a sink in memory.
+#![tactic(auto)]
+
+#[cfg(test)]
+mod commands;
+#[cfg(test)]
+mod rewrite;
