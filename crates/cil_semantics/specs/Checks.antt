@@ -1,7 +1,7 @@
 -- Contract calls in a call with contracts: conditions, old values, results, and failures (Code Contracts User Manual, sections 2 and 7).
 use Rattle.std.specs.Prelude.{ℕ, ◌+◌, ◌%◌, Bool, true, false, ◌&&◌, ◌||◌, ◌==◌, bytes_eq, if◌then◌else◌, List, [], ◌∷◌, ◌++◌, length, find, slice_get, slice_set, Option, Some, None, option_map, option_and_then, pos, codes}
 use Rattle.cil_model.specs.declared.ty.Ty.{Ty, out-Ty, Prim, Known, Outside}
-use Rattle.cil_model.specs.declared.value.Value.{Value, out-Value, I4, Null, Text}
+use Rattle.cil_model.specs.declared.value.Value.{Value, out-Value, I4, Null, Text, Obj}
 use Rattle.cil_model.specs.declared.value.Value.TheOpen.{Value-F}
 use Rattle.cil_model.specs.declared.body.Instr.{Instr}
 use Rattle.cil_model.specs.declared.program.Program.{Program}
@@ -19,10 +19,11 @@ use Rattle.cil_semantics.specs.Types.{same_tys}
 use Rattle.cil_semantics.specs.Core.{Name, class, string_ty, failure_kind, contract_name, helper_name, event_name}
 use Rattle.cil_semantics.specs.Lookups.{method_of, in_set}
 use Rattle.cil_semantics.specs.Dispatch.{methods_of, is_public}
+use Rattle.cil_semantics.specs.Numbers.{B8}
 use Rattle.cil_semantics.specs.Places.{Cut, Reference, stored, set_cell}
 use Rattle.cil_semantics.specs.State as state
 use Rattle.cil_semantics.specs.State.{Object, World, At, Lead, In, Rest, Frame, Next, Then_throws, Back, pushed, with_stack, next_object, with_object}
-use Rattle.cil_semantics.specs.Tokens.{Here, meaning_here, ref_type}
+use Rattle.cil_semantics.specs.Tokens.{own_meaning, nests_little, ref_type}
 use Rattle.cil_semantics.specs.Acts.{ty_name, isnt_zero}
 use Rattle.cil_semantics.specs.Contracted.{Piece, Plan, rank}
 use Rattle.cil_semantics.specs.Unwind.{here_of, unwind}
@@ -67,21 +68,26 @@ contract_call_in p (Some (OfMethod owner m args)) =
     if bytes_eq (ty_name p owner) contract_name then contract_member (method_of p m).name else No_contract_call
 contract_call_in p _ = No_contract_call
 
-unfoldable pub contract_call : Program → Here → Instr → Contract_call
-contract_call p here i = if i.op == 0x28 then contract_call_in p (meaning_here p here i) else No_contract_call
+-- A contract call is recognised by its token alone, so it is one in every frame or in none.
+unfoldable pub contract_call : Program → Instr → Contract_call
+contract_call p i = if i.op == 0x28 then contract_call_in p (own_meaning p i.operand) else No_contract_call
 
 abbrev pub is_check : Contract_call → Bool
 is_check (Checks_here c) = true
 is_check _ = false
 
 -- how many Assert and Assume calls stand among instructions
-abbrev pub count_checks : Program → Here → List Instr → ℕ
-count_checks p here [] = 0
-count_checks p here (i ∷ is) = if is_check (contract_call p here i) then count_checks p here is + 1 else count_checks p here is
+abbrev pub count_checks : Program → List Instr → ℕ
+count_checks p [] = 0
+count_checks p (i ∷ is) = if is_check (contract_call p i) then count_checks p is + 1 else count_checks p is
 
-abbrev pub has_message : Program → Option Meaning → Bool
-has_message p (Some (OfMethod owner m args)) = length (method_of p m).params == 2
-has_message p _ = false
+abbrev pub message_in : Program → Option Meaning → Bool
+message_in p (Some (OfMethod owner m args)) = length (method_of p m).params == 2
+message_in p _ = false
+
+-- the call takes a message besides its condition
+abbrev pub has_message : Program → Instr → Bool
+has_message p i = message_in p (own_meaning p i.operand)
 
 -- ---- a condition
 
@@ -105,7 +111,7 @@ bool_in _ = false
 
 abbrev pub condition_from : Value → List Value → Option Condition
 condition_from user [] = None
-condition_from user (v ∷ rest) = option_map (λ x. record { holds = bool_in (out-Value x); user = user; rest = rest }) (stored (Cut 8 false) v)
+condition_from user (v ∷ rest) = option_map (λ x. record { holds = bool_in (out-Value x); user = user; rest = rest }) (stored (Cut B8 false) v)
 
 abbrev pub condition_in : (message : Bool) → List Value → Option Condition
 condition_in true [] = None
@@ -191,7 +197,7 @@ throws_new p k =
 abbrev pub throw_outside : Program → Contracts → Numbers → Ty → Value → List Frame → World → Next
 throw_outside p k g t text fs w =
     if calls.is_core_exception p t
-    then unwind p k false fs (with_object (record { ty = t; cells = [] }) w) (next_object w)
+    then unwind p k false fs (with_object p (record { ty = t; cells = [] }) w) (next_object w)
     else calls.use_answer p k (throws_new p k) (ask_new p t (constructor_member p g t) (text ∷ []) fs w) w
 
 abbrev pub throw_exception : Program → Contracts → Numbers → Ty → ℕ → Value → List Frame → World → Next
@@ -206,17 +212,22 @@ triggered p k (Answers v gs w) fs before passes = passes w
 triggered p k (Throws_out x gs w) fs before passes = unwind p k false fs w x
 triggered p k Unfit fs before passes = stuck before
 
--- a text reply to a failure
+-- the type of which a failure makes an exception, unless it nests over 1,000 deep, as at newobj
+abbrev pub made_type : Failure → Option Ty
+made_type x = option_and_then (λ t. if nests_little t then Some t else None) x.exception
+
+-- a reply to a failure that isn't null: a text, or an object of a class under System.String
 abbrev pub fail_with : Program → Contracts → Numbers → Failure → ClauseKind → Value → List Frame → World → (World → Next) → Next
-fail_with p k g x kind.RequiresOf text fs w passes = if_there x.exception w (λ t. throw_exception p k g t x.home text fs w)
+fail_with p k g x kind.RequiresOf text fs w passes = if_there (made_type x) w (λ t. throw_exception p k g t x.home text fs w)
 fail_with p k g x _ text fs w passes =
     if k.settings.throwing
-    then unwind p k false fs (with_object (contract_failure g x) w) (next_object w)
+    then unwind p k false fs (with_object p (contract_failure g x) w) (next_object w)
     else triggered p k (ask p (trigger_member g) (number_value x ∷ text ∷ x.user ∷ label_text x ∷ Null ∷ []) fs w) fs w passes
 
 abbrev pub replied : Program → Contracts → Numbers → Failure → Value-F Value → List Frame → World → (World → Next) → Next
 replied p k g x Value-F.Null fs w passes = passes w
 replied p k g x (Value-F.Text units) fs w passes = fail_with p k g x x.kind (Text units) fs w passes
+replied p k g x (Value-F.Obj y) fs w passes = fail_with p k g x x.kind (Obj y) fs w passes
 replied p k g x _ fs w passes = stuck w
 
 abbrev pub reported : Program → Contracts → Numbers → Failure → Answer → List Frame → World → (World → Next) → Next
@@ -238,7 +249,7 @@ check p k g x b fs w passes = if b then passes w else fail p k g x fs w passes
 -- an Assert or Assume: checked at the full level, else its arguments are dropped
 abbrev pub check_inline : Program → Contracts → Numbers → Plan → ClauseKind → ℕ → Name → Instr → Frame → List Frame → World → Next
 check_inline p k g plan c home label i f fs w =
-    let message : Bool = has_message p (meaning_here p (here_of f fs) i) in
+    let message : Bool = has_message p i in
     if rank plan.settings.level == 4
     then if_there (condition_in message f.local.stack) w (λ (x : Condition).
     let l : state.Local = with_stack f.local x.rest in
@@ -248,7 +259,7 @@ check_inline p k g plan c home label i f fs w =
 -- the call that ends a clause
 abbrev pub end_clause : Program → Contracts → Numbers → Plan → Group → ℕ → Piece → Instr → Frame → List Frame → World → Next
 end_clause p k g plan gr n x i f fs w =
-    if_there (condition_in (has_message p (meaning_here p (here_of f fs) i)) f.local.stack) w (λ (c : Condition).
+    if_there (condition_in (has_message p i) f.local.stack) w (λ (c : Condition).
     let l : state.Local = with_stack f.local c.rest in
     check p k g
     (record { kind = x.clause.kind; exception = option_and_then (ref_type p (here_of f fs)) x.clause.exception; home = x.clause.home; user = c.user; label = x.clause.label })

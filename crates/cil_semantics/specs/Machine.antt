@@ -11,7 +11,10 @@ use Rattle.cil_model.specs.declared.contract.Old.{Old}
 use Rattle.cil_model.specs.declared.run.Reply.{Reply}
 use Rattle.cil_model.specs.NoContracts.{no_contracts}
 use Rattle.cil_semantics.specs.Words.{maybe}
-use Rattle.cil_semantics.specs.Places.{Anything, Cell}
+use Rattle.cil_model.specs.declared.program.Meaning.{Meaning}
+use Rattle.cil_model.specs.declared.program.Meaning.TheVariants.{OfMethod}
+use Rattle.cil_semantics.specs.Places.{Cell, holds}
+use Rattle.cil_semantics.specs.Tokens.{meaning_here}
 use Rattle.cil_semantics.specs.State.{World, At, Lead, In, Rest, Frame, State, Next, Goes, Ends, Pushes, pushed, with_stack, untold, goes_after}
 use Rattle.cil_semantics.specs.Classes.{Class, class_of, Loads_local, Stores_local, Points_to_local}
 use Rattle.cil_semantics.specs.Acts.{Act, Is_stuck, Goes_on, Jumps, Raises, Throws, Throws_again, Leaves, Ends_handler, Returns, Loads, Stores, Copies, Uses_static, Calls, Calls_virtual, Makes, Finds_virtual}
@@ -22,6 +25,16 @@ use Rattle.cil_semantics.specs.Frames.{stuck, if_there, go_on, load, store, copy
 use Rattle.cil_semantics.specs.Returns.{returns}
 use Rattle.cil_semantics.specs.Calls.{call_member, call_virtual, find_virtual_on, make, pushes_new, pointed}
 use Rattle.cil_semantics.specs.Checks.{Numbers, Contract_call, Ends_clause, Gives_result, Reads_argument, Takes_old, Checks_here, No_contract_call, contract_call, count_checks, check_inline, end_clause, capture, recalled, inline_label}
+
+-- a clause names its own locals, which stand behind others in the frame
+abbrev pub shifted : ℕ → Class → Operand → Operand
+shifted n Loads_local (Index i) = Index (n + i)
+shifted n Stores_local (Index i) = Index (n + i)
+shifted n Points_to_local (Index i) = Index (n + i)
+shifted n c o = o
+
+abbrev pub in_clause : ℕ → Instr → Instr
+in_clause n i = record i { operand = shifted n (class_of i.op) i.operand }
 
 module _ (p : Program) (k : Contracts) (g : Numbers) where
   -- an act is performed by the topmost frame, over the others
@@ -51,32 +64,22 @@ module _ (p : Program) (k : Contracts) (g : Numbers) where
   -- in the lead-in and the rest, Assert and Assume are checked where they stand
   abbrev pub run_in_body : Plan → Contract_call → (place : ℕ) → Instr → Frame → List Frame → World → Next
   run_in_body plan (Checks_here c) q i f fs w =
-      check_inline p k g plan c f.method (inline_label plan.effective.asserts (count_checks p (here_of f fs) (take q (body_of p f.method).instrs))) i f fs w
+      check_inline p k g plan c f.method (inline_label plan.effective.asserts (count_checks p (take q (body_of p f.method).instrs))) i f fs w
   run_in_body plan _ q i f fs w = run_plain i f fs w
 
-  -- a clause names its own locals, which stand behind others in the frame
-  abbrev pub shifted : ℕ → Class → Operand → Operand
-  shifted n Loads_local (Index i) = Index (n + i)
-  shifted n Stores_local (Index i) = Index (n + i)
-  shifted n Points_to_local (Index i) = Index (n + i)
-  shifted n c o = o
-
-  abbrev pub in_clause : ℕ → Instr → Instr
-  in_clause n i = record i { operand = shifted n (class_of i.op) i.operand }
-
-  -- what a by-reference argument points to
-  abbrev pub read_argument : List Value → Frame → List Frame → World → Next
-  read_argument [] f fs w = stuck w
-  read_argument (v ∷ rest) f fs w = if_there (pointed (out-Value v)) w (λ q. load p k q Anything f (with_stack f.local rest) fs w)
+  -- ValueAtReturn<T> loads what a place of T holds through its argument, as ldobj does.
+  abbrev pub read_argument : Option Meaning → List Value → Frame → List Frame → World → Next
+  read_argument (Some (OfMethod owner m (t ∷ ts))) (v ∷ rest) f fs w = if_there (pointed (out-Value v)) w (λ q. load p k q (holds p t) f (with_stack f.local rest) fs w)
+  read_argument _ stack f fs w = stuck w
 
   -- In a clause: the result, a by-reference argument at return, an old value that is captured, an Assert or Assume, or the end.
   abbrev pub run_in_piece : Plan → Group → (number : ℕ) → Piece → Contract_call → (place : ℕ) → Instr → Frame → List Frame → World → Next
   run_in_piece plan gr n x Ends_clause q i f fs w = end_clause p k g plan gr n x i f fs w
   run_in_piece plan gr n x Gives_result q i f fs w = if_there f.local.result w (λ v. go_on p k f (pushed v f.local) fs w)
-  run_in_piece plan gr n x Reads_argument q i f fs w = read_argument f.local.stack f fs w
+  run_in_piece plan gr n x Reads_argument q i f fs w = read_argument (meaning_here p (here_of f fs) i) f.local.stack f fs w
   run_in_piece plan gr n x Takes_old q i f fs w = if_there x.captures w (λ c. capture p k plan gr n c f f.local.stack fs w)
   run_in_piece plan gr n x (Checks_here c) q i f fs w =
-      check_inline p k g plan c x.clause.home (maybe [] (λ name. name) (slice_get x.clause.inline (count_checks p (here_of f fs) (take q x.clause.instrs)))) i f fs w
+      check_inline p k g plan c x.clause.home (maybe [] (λ name. name) (slice_get x.clause.inline (count_checks p (take q x.clause.instrs)))) i f fs w
   run_in_piece plan gr n x No_contract_call q i f fs w = run_plain (in_clause x.first_local i) f fs w
 
   -- an old range with its OldValue call pushes the captured value in one step
@@ -87,11 +90,11 @@ module _ (p : Program) (k : Contracts) (g : Numbers) where
   abbrev pub step_piece : Plan → Group → ℕ → Piece → ℕ → Option (ℕ × Old) → Frame → List Frame → World → Next
   step_piece plan gr n x q (Some o) f fs w = recall x o f fs w
   step_piece plan gr n x q None f fs w =
-      if_there (slice_get x.clause.instrs q) w (λ i. run_in_piece plan gr n x (contract_call p (here_of f fs) i) q i f fs w)
+      if_there (slice_get x.clause.instrs q) w (λ i. run_in_piece plan gr n x (contract_call p i) q i f fs w)
 
   abbrev pub step_body : Plan → ℕ → Frame → List Frame → World → Next
   step_body plan q f fs w =
-      if_there (slice_get (body_of p f.method).instrs q) w (λ i. run_in_body plan (contract_call p (here_of f fs) i) q i f fs w)
+      if_there (slice_get (body_of p f.method).instrs q) w (λ i. run_in_body plan (contract_call p i) q i f fs w)
 
   -- one instruction with its prefixes, where the frame stands; behind the code's end it is stuck
   abbrev pub step_at : Option Plan → At → Frame → List Frame → World → Next
@@ -121,7 +124,7 @@ runs go zero s = Goes s
 runs go (suc n) s = and_then (go s) (runs go n)
 
 abbrev pub empty_world : List Reply → World
-empty_world replies = record { heap = []; statics = []; depth = 0; replies = replies; trace = [] }
+empty_world replies = record { heap = []; cells = 0; statics = []; depth = 0; replies = replies; trace = [] }
 
 -- the first state of a run of one method: it may be over at once
 abbrev pub start : Program → Contracts → ℕ → List Value → List Reply → Next

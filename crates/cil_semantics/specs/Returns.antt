@@ -9,7 +9,7 @@ use Rattle.cil_model.specs.declared.run.Outcome.TheVariants as outcome
 use Rattle.cil_semantics.specs.Words.{maybe}
 use Rattle.cil_semantics.specs.Types.{under}
 use Rattle.cil_semantics.specs.Lookups.{method_of}
-use Rattle.cil_semantics.specs.Places.{Cell, No_value, holds, stored}
+use Rattle.cil_semantics.specs.Places.{Holds, Cell, No_value, holds, stored}
 use Rattle.cil_semantics.specs.State.{World, Local, At, Lead, In, Rest, Frame, Next, Ends, Back, Pushes, Makes, Makes_struct, Then_throws, Begins, Uses, Tries, Left, pushed, lowered}
 use Rattle.cil_semantics.specs.Acts.{flag, truth}
 use Rattle.cil_semantics.specs.Contracted.{Plan}
@@ -70,7 +70,7 @@ group_over p k plan group.Entry f l fs w = begin_rest p plan f l fs w
 group_over p k plan group.Exit f l fs w = begin_invariants p k plan f l fs w
 group_over p k plan group.Invariant f l fs w = return_to p k f l fs w
 group_over p k plan group.Throw f l fs w =
-    maybe (stuck w) (λ x. ends_frame f.initializes f.back w x (λ skip v y. unwind p k skip fs v y)) f.thrown
+    maybe (stuck w) (λ x. ends_frame p f.initializes f.back w x (λ skip v y. unwind p k skip fs v y)) f.thrown
 group_over p k plan group.Inline f l fs w = stuck w
 
 -- a piece of a group is over: the next one begins
@@ -80,14 +80,15 @@ piece_over p k plan g i f l fs w =
 
 -- ---- ret
 
+-- what a place keeps of the value on top, or nothing where it has none
+abbrev pub kept_as : Holds → List Value → Option (Option Value)
+kept_as No_value s = Some None
+kept_as h [] = None
+kept_as h (v ∷ s) = option_map Some (stored h v)
+
 -- what is returned: nothing, or the value on top as a place of the result's type keeps it
 abbrev pub returned : Program → Frame → List Value → Option (Option Value)
-returned p f stack = kept (holds p (under f.type_args f.method_args (method_of p f.method).result)) stack
-  where
-    kept : Rattle.cil_semantics.specs.Places.Holds → List Value → Option (Option Value)
-    kept No_value s = Some None
-    kept h [] = None
-    kept h (v ∷ s) = option_map Some (stored h v)
+returned p f stack = kept_as (holds p (under f.type_args f.method_args (method_of p f.method).result)) stack
 
 abbrev pub return_from : Program → Contracts → Option Plan → At → Frame → Local → List Frame → World → Next
 return_from p k None at f l fs w = return_to p k f l fs w

@@ -124,14 +124,27 @@ abbrev pub begin_group : Program → Plan → Group → Frame → Local → List
 begin_group p k g f l fs w over =
     if runs_at k g w.depth then begin_piece p g (next_piece p k g 0 f fs w) f l fs (raised w) over else over
 
+-- the rest, with the stack that is there
+abbrev pub go_to_rest : Program → Plan → Frame → Local → List Frame → World → Next
+go_to_rest p k f l fs w = goes_at p f (Rest k.effective.rest_from) l [] fs w
+
 abbrev pub begin_rest : Program → Plan → Frame → Local → List Frame → World → Next
-begin_rest p k f l fs w = goes_at p f (Rest k.effective.rest_from) (with_stack l []) [] fs w
+begin_rest p k f l fs w = go_to_rest p k f (with_stack l []) fs w
+
+-- The entry group runs, or is passed over. Its first piece, or the rest, finds the stack of the lead-in, which is empty by the rule on heights; behind each piece it is emptied.
+abbrev pub begin_first : Program → Plan → Option (ℕ × Piece) → Frame → Local → List Frame → World → Next
+begin_first p k None f l fs w = go_to_rest p k f l fs w
+begin_first p k (Some x) f l fs w = goes_at p f (In group.Entry x.0 x.1.from) l [] fs (raised w)
+
+abbrev pub begin_entry : Program → Plan → Frame → Local → List Frame → World → Next
+begin_entry p k f l fs w =
+    if runs_at k group.Entry w.depth then begin_first p k (next_piece p k group.Entry 0 f fs w) f l fs w else go_to_rest p k f l fs w
 
 -- A frame has come to a place. At the end of the lead-in the entry group runs, and then the rest, at once.
 abbrev pub arrive_in : Program → Option Plan → Frame → At → Local → List Handling → List Frame → World → Next
 arrive_in p None f at l hs fs w = goes_at p f at l hs fs w
 arrive_in p (Some k) f (Lead q) l hs fs w =
-    if q == k.effective.lead_end then begin_group p k group.Entry f l fs w (begin_rest p k f l fs w) else goes_at p f (Lead q) l hs fs w
+    if q == k.effective.lead_end then begin_entry p k f l fs w else goes_at p f (Lead q) l hs fs w
 arrive_in p (Some k) f (In g i q) l hs fs w = goes_at p f (In g i q) l [] fs w
 arrive_in p (Some k) f (Rest q) l hs fs w = goes_at p f (Rest q) l hs fs w
 
@@ -198,10 +211,10 @@ hasnt_begun Begins = true
 hasnt_begun _ = false
 
 -- An exception of an initializer becomes a TypeInitializationException, which is kept (ECMA-335, II.10.5.3.1 and the class library's text).
-abbrev pub ends_frame : Option Ty → Back → World → ℕ → Below → Next
-ends_frame None back w x below = below (hasnt_begun back) w x
-ends_frame (Some t) back w x below =
-    below (hasnt_begun back) (with_failed t (next_object w) (with_object initialization_failed w)) (next_object w)
+abbrev pub ends_frame : Program → Option Ty → Back → World → ℕ → Below → Next
+ends_frame p None back w x below = below (hasnt_begun back) w x
+ends_frame p (Some t) back w x below =
+    below (hasnt_begun back) (with_failed t (next_object w) (with_object p initialization_failed w)) (next_object w)
 
 -- a captured value's exception is dropped
 abbrev pub drops : Option Piece → Bool
@@ -210,12 +223,12 @@ drops (Some x) = maybe false (λ c. true) x.captures
 
 -- The frame has no handler left. In the rest the group of EnsuresOnThrow runs; an exception of a group goes on.
 abbrev pub gives_up : Program → Option Plan → Frame → At → List Frame → World → ℕ → Below → Next
-gives_up p None f at fs w x below = ends_frame f.initializes f.back w x below
-gives_up p (Some k) f (Lead q) fs w x below = ends_frame f.initializes f.back w x below
+gives_up p None f at fs w x below = ends_frame p f.initializes f.back w x below
+gives_up p (Some k) f (Lead q) fs w x below = ends_frame p f.initializes f.back w x below
 gives_up p (Some k) f (In g i q) fs w x below =
-    if drops (piece_at (Some k) g i) then after_entry_piece p k i f f.local fs w else ends_frame f.initializes f.back (lowered w) x below
+    if drops (piece_at (Some k) g i) then after_entry_piece p k i f f.local fs w else ends_frame p f.initializes f.back (lowered w) x below
 gives_up p (Some k) f (Rest q) fs w x below =
-    begin_group p k group.Throw (record f { thrown = Some x }) f.local fs w (ends_frame f.initializes f.back w x below)
+    begin_group p k group.Throw (record f { thrown = Some x }) f.local fs w (ends_frame p f.initializes f.back w x below)
 
 abbrev pub land : Program → Contracts → Found → Frame → List Handling → ℕ → List Frame → World → ℕ → Below → Next
 land p k Nowhere f hs q fs w x below = gives_up p (plan_at k p f.method) f f.at fs w x below
@@ -239,7 +252,7 @@ unwind p k false (f ∷ fs) w x = throws_in p k f f.handling 0 (place_in f.at) f
 
 -- a new exception of a core class
 abbrev pub raise : Program → Contracts → Name → List Frame → World → Next
-raise p k name fs w = unwind p k false fs (with_object (record { ty = class name; cells = [] }) w) (next_object w)
+raise p k name fs w = unwind p k false fs (with_object p (record { ty = class name; cells = [] }) w) (next_object w)
 
 -- ---- leave, endfinally, rethrow (ECMA-335, III.3.46, 3.35, 4.24)
 

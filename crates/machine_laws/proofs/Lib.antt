@@ -1,0 +1,4 @@
+pub mod LiftLaws
+pub mod PartLaws
+pub mod GrowthLaws
+pub mod SameLaws

@@ -1,0 +1,16 @@
+//! Runs of small programs, computed from the definitions of the machine.
+#![tactic(auto)]
+
+mod more_rows;
+mod rows;
+mod spliced_rows;
+
+pub use more_rows::{
+    failure_without_throwing, handlers_of_the_rest, initializers, invariant_under_a_nested_call,
+    reply_that_doesnt_fit, requires_of_an_own_exception, statics_of_closed_types, value_at_return,
+};
+pub use rows::{
+    assert_at_each_level, captured_values, lead_in_at_each_level, plain_runs,
+    recursion_under_guard, requires_with_each_reply, several_exits, throw_group,
+};
+pub use spliced_rows::{spliced_assert, spliced_ensures, spliced_requires};
