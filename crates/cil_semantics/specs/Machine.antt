@@ -15,8 +15,8 @@ use Rattle.cil_model.specs.declared.program.Meaning.{Meaning}
 use Rattle.cil_model.specs.declared.program.Meaning.TheVariants.{OfMethod}
 use Rattle.cil_semantics.specs.Places.{Cell, holds}
 use Rattle.cil_semantics.specs.Tokens.{meaning_here}
-use Rattle.cil_semantics.specs.State.{World, At, Lead, In, Rest, Frame, State, Next, Goes, Ends, Pushes, pushed, with_stack, untold, goes_after}
-use Rattle.cil_semantics.specs.Classes.{Class, class_of, Loads_local, Stores_local, Points_to_local}
+use Rattle.cil_semantics.specs.State.{World, At, Lead, In, Rest, Frame, State, Next, Goes, Ends, Pushes, pushed, with_stack, with_objects, untold, goes_after}
+use Rattle.cil_semantics.specs.Classes.{Class, class_of, LoadLocal, StoreLocal, LocalAddress}
 use Rattle.cil_semantics.specs.Acts.{Act, Is_stuck, Goes_on, Jumps, Raises, Throws, Throws_again, Leaves, Ends_handler, Returns, Loads, Stores, Copies, Uses_static, Calls, Calls_virtual, Makes, Finds_virtual}
 use Rattle.cil_semantics.specs.Instructions.{act}
 use Rattle.cil_semantics.specs.Contracted.{Piece, Plan}
@@ -24,13 +24,14 @@ use Rattle.cil_semantics.specs.Unwind.{body_of, plan_at, piece_at, here_of, plac
 use Rattle.cil_semantics.specs.Frames.{stuck, if_there, go_on, load, store, copy, use_by, initializer, enter, owner_type}
 use Rattle.cil_semantics.specs.Returns.{returns}
 use Rattle.cil_semantics.specs.Calls.{call_member, call_virtual, find_virtual_on, make, pushes_new, pointed}
-use Rattle.cil_semantics.specs.Checks.{Numbers, Contract_call, Ends_clause, Gives_result, Reads_argument, Takes_old, Checks_here, No_contract_call, contract_call, count_checks, check_inline, end_clause, capture, recalled, inline_label}
+use Rattle.cil_semantics.specs.ContractCalls.{ContractCall, EndsClause, EndsBlock, Abbreviates, GivesResult, ReadsArgument, TakesOld, ChecksHere, NoContractCall, contract_call, count_checks}
+use Rattle.cil_semantics.specs.Checks.{Numbers, check_inline, end_clause, capture, recalled, inline_label, inline_number}
 
 -- a clause names its own locals, which stand behind others in the frame
 abbrev pub shifted : ℕ → Class → Operand → Operand
-shifted n Loads_local (Index i) = Index (n + i)
-shifted n Stores_local (Index i) = Index (n + i)
-shifted n Points_to_local (Index i) = Index (n + i)
+shifted n LoadLocal (Index i) = Index (n + i)
+shifted n StoreLocal (Index i) = Index (n + i)
+shifted n LocalAddress (Index i) = Index (n + i)
 shifted n c o = o
 
 abbrev pub in_clause : ℕ → Instr → Instr
@@ -40,7 +41,7 @@ module _ (p : Program) (k : Contracts) (g : Numbers) where
   -- an act is performed by the topmost frame, over the others
   abbrev pub perform : Act → Frame → List Frame → World → Next
   perform Is_stuck f fs w = stuck w
-  perform (Goes_on v l) f fs w = go_on p k f l fs v
+  perform (Goes_on made l) f fs w = go_on p k f l fs (with_objects p made w)
   perform (Jumps t l) f fs w = arrive p k f (moved_to t f.at) l fs w
   perform (Raises name) f fs w = raise p k name (f ∷ fs) w
   perform (Throws x) f fs w = unwind p k false (f ∷ fs) w x
@@ -62,10 +63,10 @@ module _ (p : Program) (k : Contracts) (g : Numbers) where
   run_plain i f fs w = perform (act p (here_of f fs) i w f.local) f fs w
 
   -- in the lead-in and the rest, Assert and Assume are checked where they stand
-  abbrev pub run_in_body : Plan → Contract_call → (place : ℕ) → Instr → Frame → List Frame → World → Next
-  run_in_body plan (Checks_here c) q i f fs w =
-      check_inline p k g plan c f.method (inline_label plan.effective.asserts (count_checks p (take q (body_of p f.method).instrs))) i f fs w
-  run_in_body plan _ q i f fs w = run_plain i f fs w
+  abbrev pub run_in_body : Plan → ContractCall → Instr → Frame → List Frame → World → Next
+  run_in_body plan (ChecksHere c) i f fs w =
+      check_inline p k g plan c f.method (inline_label plan.effective.asserts (inline_number p plan.effective.asserts (body_of p f.method).instrs f.at)) i f fs w
+  run_in_body plan _ i f fs w = run_plain i f fs w
 
   -- ValueAtReturn<T> loads what a place of T holds through its argument, as ldobj does.
   abbrev pub read_argument : Option Meaning → List Value → Frame → List Frame → World → Next
@@ -73,14 +74,16 @@ module _ (p : Program) (k : Contracts) (g : Numbers) where
   read_argument _ stack f fs w = stuck w
 
   -- In a clause: the result, a by-reference argument at return, an old value that is captured, an Assert or Assume, or the end.
-  abbrev pub run_in_piece : Plan → Group → (number : ℕ) → Piece → Contract_call → (place : ℕ) → Instr → Frame → List Frame → World → Next
-  run_in_piece plan gr n x Ends_clause q i f fs w = end_clause p k g plan gr n x i f fs w
-  run_in_piece plan gr n x Gives_result q i f fs w = if_there f.local.result w (λ v. go_on p k f (pushed v f.local) fs w)
-  run_in_piece plan gr n x Reads_argument q i f fs w = read_argument (meaning_here p (here_of f fs) i) f.local.stack f fs w
-  run_in_piece plan gr n x Takes_old q i f fs w = if_there x.captures w (λ c. capture p k plan gr n c f f.local.stack fs w)
-  run_in_piece plan gr n x (Checks_here c) q i f fs w =
+  abbrev pub run_in_piece : Plan → Group → (number : ℕ) → Piece → ContractCall → (place : ℕ) → Instr → Frame → List Frame → World → Next
+  run_in_piece plan gr n x (EndsClause c) q i f fs w = end_clause p k g plan gr n x i f fs w
+  run_in_piece plan gr n x GivesResult q i f fs w = if_there f.local.result w (λ v. go_on p k f (pushed v f.local) fs w)
+  run_in_piece plan gr n x ReadsArgument q i f fs w = read_argument (meaning_here p (here_of f fs) i) f.local.stack f fs w
+  run_in_piece plan gr n x TakesOld q i f fs w = if_there x.captures w (λ c. capture p k plan gr n c f f.local.stack fs w)
+  run_in_piece plan gr n x (ChecksHere c) q i f fs w =
       check_inline p k g plan c x.clause.home (maybe [] (λ name. name) (slice_get x.clause.inline (count_checks p (take q x.clause.instrs)))) i f fs w
-  run_in_piece plan gr n x No_contract_call q i f fs w = run_plain (in_clause x.first_local i) f fs w
+  run_in_piece plan gr n x EndsBlock q i f fs w = run_plain (in_clause x.first_local i) f fs w
+  run_in_piece plan gr n x Abbreviates q i f fs w = run_plain (in_clause x.first_local i) f fs w
+  run_in_piece plan gr n x NoContractCall q i f fs w = run_plain (in_clause x.first_local i) f fs w
 
   -- an old range with its OldValue call pushes the captured value in one step
   abbrev pub recall : Piece → ℕ × Old → Frame → List Frame → World → Next
@@ -94,7 +97,7 @@ module _ (p : Program) (k : Contracts) (g : Numbers) where
 
   abbrev pub step_body : Plan → ℕ → Frame → List Frame → World → Next
   step_body plan q f fs w =
-      if_there (slice_get (body_of p f.method).instrs q) w (λ i. run_in_body plan (contract_call p i) q i f fs w)
+      if_there (slice_get (body_of p f.method).instrs q) w (λ i. run_in_body plan (contract_call p i) i f fs w)
 
   -- one instruction with its prefixes, where the frame stands; behind the code's end it is stuck
   abbrev pub step_at : Option Plan → At → Frame → List Frame → World → Next

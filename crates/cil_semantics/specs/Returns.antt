@@ -1,16 +1,17 @@
 -- The end of a frame that returns, and of a piece of a group (ECMA-335, III.3.57; the Code Contracts manual on the order of checks).
 use Rattle.std.specs.Prelude.{ℕ, ◌+◌, Bool, true, false, not, if◌then◌else◌, List, [], ◌∷◌, reverse, Option, Some, None, option_map, option_and_then}
+use Rattle.cil_model.specs.declared.ty.Ty.{Ty}
 use Rattle.cil_model.specs.declared.value.Value.{Value, out-Value}
 use Rattle.cil_model.specs.declared.contract.Contracts.{Contracts}
 use Rattle.cil_model.specs.declared.contract.Group.{Group}
 use Rattle.cil_model.specs.declared.contract.Group.TheVariants as group
 use Rattle.cil_model.specs.declared.program.Program.{Program}
 use Rattle.cil_model.specs.declared.run.Outcome.TheVariants as outcome
-use Rattle.cil_semantics.specs.Words.{maybe}
+use Rattle.cil_semantics.specs.Words.{maybe, same_bool}
 use Rattle.cil_semantics.specs.Types.{under}
 use Rattle.cil_semantics.specs.Lookups.{method_of}
-use Rattle.cil_semantics.specs.Places.{Holds, Cell, No_value, holds, stored}
-use Rattle.cil_semantics.specs.State.{World, Local, At, Lead, In, Rest, Frame, Next, Ends, Back, Pushes, Makes, Makes_struct, Then_throws, Begins, Uses, Tries, Left, pushed, lowered}
+use Rattle.cil_semantics.specs.Places.{Storage, Cell, Void, holds, stored_in}
+use Rattle.cil_semantics.specs.State.{World, with_local, At, Lead, In, Rest, Frame, Next, Ends, Back, Pushes, Makes, Makes_struct, Then_throws, Begins, Uses, Tries, Left, pushed, lowered}
 use Rattle.cil_semantics.specs.Acts.{flag, truth}
 use Rattle.cil_semantics.specs.Contracted.{Plan}
 use Rattle.cil_semantics.specs.Unwind.{plan_at, begin_group, begin_piece, begin_rest, next_piece, ends_frame, unwind}
@@ -32,11 +33,7 @@ last_cell cs = first_of (reverse cs)
 -- ForAll and Exists try what is left, and stop at the first false or true answer
 abbrev pub try_next : Program → Contracts → (exists : Bool) → Value → Option (Value × Left) → List Frame → World → Next
 try_next p k exists target None fs w = push_below p k (Some (flag (not exists))) fs w
-try_next p k exists target (Some x) fs w = enter_delegate p k (out-Value target) (x.0 ∷ []) (Tries exists target x.1) fs w
-
-abbrev pub same_bool : Bool → Bool → Bool
-same_bool true b = b
-same_bool false b = not b
+try_next p k exists target (Some x) fs w = enter_delegate p k true (out-Value target) (x.0 ∷ []) (Tries exists target x.1) fs w
 
 abbrev pub tried : Program → Contracts → (exists : Bool) → Value → Left → Option Bool → List Frame → World → Next
 tried p k exists target left None fs w = stuck w
@@ -58,45 +55,49 @@ return_by p k (Uses a) args v [] w = stuck w
 return_by p k (Uses a) args v (f ∷ fs) w = use_static p k a f f.local fs w
 return_by p k (Tries exists target left) args v fs w = tried p k exists target left (option_and_then truth v) fs w
 
-unfoldable pub return_to : Program → Contracts → Frame → Local → List Frame → World → Next
-return_to p k f l fs w = return_by p k f.back l.args l.result fs w
+unfoldable pub return_to : Program → Contracts → Frame → List Frame → World → Next
+return_to p k f fs w = return_by p k f.back f.local.args f.local.result fs w
 
-abbrev pub begin_invariants : Program → Contracts → Plan → Frame → Local → List Frame → World → Next
-begin_invariants p k plan f l fs w = begin_group p plan group.Invariant f l fs w (return_to p k f l fs w)
+abbrev pub begin_invariants : Program → Contracts → Plan → Frame → List Frame → World → Next
+begin_invariants p k plan f fs w = begin_group p plan group.Invariant f fs w (return_to p k f fs w)
 
 -- The group is over. After the postconditions come the invariants, after those the value goes down; after EnsuresOnThrow the exception does.
-abbrev pub group_over : Program → Contracts → Plan → Group → Frame → Local → List Frame → World → Next
-group_over p k plan group.Entry f l fs w = begin_rest p plan f l fs w
-group_over p k plan group.Exit f l fs w = begin_invariants p k plan f l fs w
-group_over p k plan group.Invariant f l fs w = return_to p k f l fs w
-group_over p k plan group.Throw f l fs w =
+abbrev pub group_over : Program → Contracts → Plan → Group → Frame → List Frame → World → Next
+group_over p k plan group.Entry f fs w = begin_rest p plan f fs w
+group_over p k plan group.Exit f fs w = begin_invariants p k plan f fs w
+group_over p k plan group.Invariant f fs w = return_to p k f fs w
+group_over p k plan group.Throw f fs w =
     maybe (stuck w) (λ x. ends_frame p f.initializes f.back w x (λ skip v y. unwind p k skip fs v y)) f.thrown
-group_over p k plan group.Inline f l fs w = stuck w
+group_over p k plan group.Inline f fs w = stuck w
 
 -- a piece of a group is over: the next one begins
-abbrev pub piece_over : Program → Contracts → Plan → Group → ℕ → Frame → Local → List Frame → World → Next
-piece_over p k plan g i f l fs w =
-    begin_piece p g (next_piece p plan g (i + 1) f fs w) f l fs w (group_over p k plan g f l fs (lowered w))
+abbrev pub piece_over : Program → Contracts → Plan → Group → ℕ → Frame → List Frame → World → Next
+piece_over p k plan g i f fs w =
+    begin_piece p g (next_piece p plan g (i + 1) f fs w) f fs w (group_over p k plan g f fs (lowered w))
 
 -- ---- ret
 
 -- what a place keeps of the value on top, or nothing where it has none
-abbrev pub kept_as : Holds → List Value → Option (Option Value)
-kept_as No_value s = Some None
-kept_as h [] = None
-kept_as h (v ∷ s) = option_map Some (stored h v)
+abbrev pub kept_as : Program → Ty → Storage → List Value → Option (Option Value)
+kept_as p t Void s = Some None
+kept_as p t h [] = None
+kept_as p t h (v ∷ s) = option_map Some (stored_in p t v)
+
+-- the closed type that a frame's method returns
+abbrev pub result_type : Program → Frame → Ty
+result_type p f = under f.type_args f.method_args (method_of p f.method).result
 
 -- what is returned: nothing, or the value on top as a place of the result's type keeps it
 abbrev pub returned : Program → Frame → List Value → Option (Option Value)
-returned p f stack = kept_as (holds p (under f.type_args f.method_args (method_of p f.method).result)) stack
+returned p f stack = kept_as p (result_type p f) (holds p (result_type p f)) stack
 
-abbrev pub return_from : Program → Contracts → Option Plan → At → Frame → Local → List Frame → World → Next
-return_from p k None at f l fs w = return_to p k f l fs w
-return_from p k (Some plan) (Lead q) f l fs w = return_to p k f l fs w
-return_from p k (Some plan) (In g i q) f l fs w = stuck w
-return_from p k (Some plan) (Rest q) f l fs w = begin_group p plan group.Exit f l fs w (begin_invariants p k plan f l fs w)
+abbrev pub return_from : Program → Contracts → Option Plan → At → Frame → List Frame → World → Next
+return_from p k None at f fs w = return_to p k f fs w
+return_from p k (Some plan) (Lead q) f fs w = return_to p k f fs w
+return_from p k (Some plan) (In g i q) f fs w = stuck w
+return_from p k (Some plan) (Rest q) f fs w = begin_group p plan group.Exit f fs w (begin_invariants p k plan f fs w)
 
 -- In the lead-in, as without contracts, ret ends the call at once; in the rest the groups come first.
 abbrev pub returns : Program → Contracts → Frame → List Frame → World → Next
 returns p k f fs w =
-    if_there (returned p f f.local.stack) w (λ v. return_from p k (plan_at k p f.method) f.at f (record f.local { result = v }) fs w)
+    if_there (returned p f f.local.stack) w (λ v. return_from p k (plan_at k p f.method) f.at (with_local (record f.local { result = v }) f) fs w)

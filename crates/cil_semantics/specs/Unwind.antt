@@ -16,7 +16,7 @@ use Rattle.cil_semantics.specs.Words.{maybe}
 use Rattle.cil_semantics.specs.Types.{under, same_ty}
 use Rattle.cil_semantics.specs.Core.{Name, class}
 use Rattle.cil_semantics.specs.Lookups.{method_of, is_sub}
-use Rattle.cil_semantics.specs.State.{Object, World, Local, At, Lead, In, Rest, Cause, Caught, Thrown_on, Left_for, Handling, Frame, Next, Goes, Ends, Statics, Failed, Begins, Back, with_stack, raised, lowered, object_at, next_object, with_object}
+use Rattle.cil_semantics.specs.State.{Object, World, Local, At, Lead, In, Rest, with_local, Cause, Caught, Thrown_on, Left_for, Handling, Frame, Next, Goes, Ends, Statics, Failed, Begins, Back, with_stack, raised, lowered, object_at, next_object, with_object}
 use Rattle.cil_semantics.specs.Tokens.{Here, meaning_of, as_type, ref_type, locals_in}
 use Rattle.cil_semantics.specs.Contracted.{Piece, Plan, plan_for, pieces, runs_at}
 use Rattle.cil_semantics.specs.Acts.{ty_name}
@@ -115,36 +115,36 @@ abbrev pub next_piece : Program → Plan → Group → ℕ → Frame → List Fr
 next_piece p k g i f fs w = first_from (takes_part p f fs w) i 0 (pieces k g)
 
 -- the piece begins, or where there is none the group is over
-abbrev pub begin_piece : Program → Group → Option (ℕ × Piece) → Frame → Local → List Frame → World → Next → Next
-begin_piece p g None f l fs w over = over
-begin_piece p g (Some x) f l fs w over = goes_at p f (In g x.0 x.1.from) (with_stack l []) [] fs w
+abbrev pub begin_piece : Program → Group → Option (ℕ × Piece) → Frame → List Frame → World → Next → Next
+begin_piece p g None f fs w over = over
+begin_piece p g (Some x) f fs w over = goes_at p f (In g x.0 x.1.from) (with_stack f.local []) [] fs w
 
 -- a group runs, with the depth one higher, or is passed over
-abbrev pub begin_group : Program → Plan → Group → Frame → Local → List Frame → World → Next → Next
-begin_group p k g f l fs w over =
-    if runs_at k g w.depth then begin_piece p g (next_piece p k g 0 f fs w) f l fs (raised w) over else over
+abbrev pub begin_group : Program → Plan → Group → Frame → List Frame → World → Next → Next
+begin_group p k g f fs w over =
+    if runs_at k g w.depth then begin_piece p g (next_piece p k g 0 f fs w) f fs (raised w) over else over
 
 -- the rest, with the stack that is there
-abbrev pub go_to_rest : Program → Plan → Frame → Local → List Frame → World → Next
-go_to_rest p k f l fs w = goes_at p f (Rest k.effective.rest_from) l [] fs w
+abbrev pub go_to_rest : Program → Plan → Frame → List Frame → World → Next
+go_to_rest p k f fs w = goes_at p f (Rest k.effective.rest_from) f.local [] fs w
 
-abbrev pub begin_rest : Program → Plan → Frame → Local → List Frame → World → Next
-begin_rest p k f l fs w = go_to_rest p k f (with_stack l []) fs w
+abbrev pub begin_rest : Program → Plan → Frame → List Frame → World → Next
+begin_rest p k f fs w = go_to_rest p k (with_local (with_stack f.local []) f) fs w
 
 -- The entry group runs, or is passed over. Its first piece, or the rest, finds the stack of the lead-in, which is empty by the rule on heights; behind each piece it is emptied.
-abbrev pub begin_first : Program → Plan → Option (ℕ × Piece) → Frame → Local → List Frame → World → Next
-begin_first p k None f l fs w = go_to_rest p k f l fs w
-begin_first p k (Some x) f l fs w = goes_at p f (In group.Entry x.0 x.1.from) l [] fs (raised w)
+abbrev pub begin_first : Program → Plan → Option (ℕ × Piece) → Frame → List Frame → World → Next
+begin_first p k None f fs w = go_to_rest p k f fs w
+begin_first p k (Some x) f fs w = goes_at p f (In group.Entry x.0 x.1.from) f.local [] fs (raised w)
 
-abbrev pub begin_entry : Program → Plan → Frame → Local → List Frame → World → Next
-begin_entry p k f l fs w =
-    if runs_at k group.Entry w.depth then begin_first p k (next_piece p k group.Entry 0 f fs w) f l fs w else go_to_rest p k f l fs w
+abbrev pub begin_entry : Program → Plan → Frame → List Frame → World → Next
+begin_entry p k f fs w =
+    if runs_at k group.Entry w.depth then begin_first p k (next_piece p k group.Entry 0 f fs w) f fs w else go_to_rest p k f fs w
 
 -- A frame has come to a place. At the end of the lead-in the entry group runs, and then the rest, at once.
 abbrev pub arrive_in : Program → Option Plan → Frame → At → Local → List Handling → List Frame → World → Next
 arrive_in p None f at l hs fs w = goes_at p f at l hs fs w
 arrive_in p (Some k) f (Lead q) l hs fs w =
-    if q == k.effective.lead_end then begin_entry p k f l fs w else goes_at p f (Lead q) l hs fs w
+    if q == k.effective.lead_end then begin_entry p k (with_local l f) fs w else goes_at p f (Lead q) l hs fs w
 arrive_in p (Some k) f (In g i q) l hs fs w = goes_at p f (In g i q) l [] fs w
 arrive_in p (Some k) f (Rest q) l hs fs w = goes_at p f (Rest q) l hs fs w
 
@@ -152,9 +152,9 @@ abbrev pub arrive : Program → Contracts → Frame → At → Local → List Fr
 arrive p k f at l fs w = arrive_in p (plan_at k p f.method) f at l f.handling fs w
 
 -- the piece of the entry group after this one, or the rest
-abbrev pub after_entry_piece : Program → Plan → ℕ → Frame → Local → List Frame → World → Next
-after_entry_piece p k i f l fs w =
-    begin_piece p group.Entry (next_piece p k group.Entry (i + 1) f fs w) f l fs w (begin_rest p k f l fs (lowered w))
+abbrev pub after_entry_piece : Program → Plan → ℕ → Frame → List Frame → World → Next
+after_entry_piece p k i f fs w =
+    begin_piece p group.Entry (next_piece p k group.Entry (i + 1) f fs w) f fs w (begin_rest p k f fs (lowered w))
 
 -- ---- statics and initializers
 
@@ -226,9 +226,9 @@ abbrev pub gives_up : Program → Option Plan → Frame → At → List Frame �
 gives_up p None f at fs w x below = ends_frame p f.initializes f.back w x below
 gives_up p (Some k) f (Lead q) fs w x below = ends_frame p f.initializes f.back w x below
 gives_up p (Some k) f (In g i q) fs w x below =
-    if drops (piece_at (Some k) g i) then after_entry_piece p k i f f.local fs w else ends_frame p f.initializes f.back (lowered w) x below
+    if drops (piece_at (Some k) g i) then after_entry_piece p k i f fs w else ends_frame p f.initializes f.back (lowered w) x below
 gives_up p (Some k) f (Rest q) fs w x below =
-    begin_group p k group.Throw (record f { thrown = Some x }) f.local fs w (ends_frame p f.initializes f.back w x below)
+    begin_group p k group.Throw (record f { thrown = Some x }) fs w (ends_frame p f.initializes f.back w x below)
 
 abbrev pub land : Program → Contracts → Found → Frame → List Handling → ℕ → List Frame → World → ℕ → Below → Next
 land p k Nowhere f hs q fs w x below = gives_up p (plan_at k p f.method) f f.at fs w x below

@@ -4,19 +4,19 @@ use Rattle.cil_model.specs.declared.contract.Contracts.{Contracts}
 use Rattle.cil_model.specs.declared.contract.Group.{Group}
 use Rattle.cil_model.specs.declared.contract.Group.TheVariants as group
 use Rattle.cil_model.specs.declared.program.Program.{Program}
-use Rattle.cil_semantics.specs.State.{World, Local, Lead, In, Rest, Handling, Frame, Next, with_stack, raised, lowered}
+use Rattle.cil_semantics.specs.State.{World, Local, Lead, In, Rest, Handling, Frame, Next, with_local, with_stack, raised, lowered}
 use Rattle.cil_semantics.specs.Contracted.{Piece, Plan, pieces, runs_at, is_pre, each_captured, is_ensures, is_throws}
 use Rattle.cil_semantics.specs.Unwind.{piece_at, goes_at, arrive_in, next_piece, gives_up, ends_frame, drops, unwind, Below}
 use Rattle.cil_semantics.specs.Frames.{first_place}
 use Rattle.cil_semantics.specs.Returns.{return_to, return_from, begin_invariants, piece_over}
 
 -- the frame stands at the beginning of a piece
-abbrev pub at_piece : Program → Group → ℕ × Piece → Frame → Local → List Frame → World → Next
-at_piece p g x f l fs w = goes_at p f (In g x.0 x.1.from) (with_stack l []) [] fs w
+abbrev pub at_piece : Program → Group → ℕ × Piece → Frame → List Frame → World → Next
+at_piece p g x f fs w = goes_at p f (In g x.0 x.1.from) (with_stack f.local []) [] fs w
 
 -- the frame stands at the beginning of the rest
-abbrev pub at_rest : Program → Plan → Frame → Local → List Frame → World → Next
-at_rest p plan f l fs w = goes_at p f (Rest plan.effective.rest_from) (with_stack l []) [] fs w
+abbrev pub at_rest : Program → Plan → Frame → List Frame → World → Next
+at_rest p plan f fs w = goes_at p f (Rest plan.effective.rest_from) (with_stack f.local []) [] fs w
 
 -- the frame ends with an exception, which goes on below
 abbrev pub goes_below : Program → Frame → World → ℕ → Below → Next
@@ -26,22 +26,22 @@ goes_below p f w x below = ends_frame p f.initializes f.back w x below
 pub record FirstPart (p : Program) (k : Contracts) (plan : Plan) (f : Frame) (fs : List Frame) : Type 0 where
   pub begins : first_place (Some plan) ≡ Lead 0
   pub goes_on : (q : ℕ) (l : Local) (hs : List Handling) (w : World) → q ≢ plan.effective.lead_end → arrive_in p (Some plan) f (Lead q) l hs fs w ≡ goes_at p f (Lead q) l hs fs w
-  pub returns : (q : ℕ) (l : Local) (w : World) → return_from p k (Some plan) (Lead q) f l fs w ≡ return_to p k f l fs w
+  pub returns : (q : ℕ) (w : World) → return_from p k (Some plan) (Lead q) f fs w ≡ return_to p k f fs w
   pub throws : (q x : ℕ) (w : World) (below : Below) → gives_up p (Some plan) f (Lead q) fs w x below ≡ goes_below p f w x below
 
 -- Part 2: the preconditions in order, then the captures in order, where the depth is at most the guard. It is one higher within. An exception of a capture is dropped; any other ends the call.
 pub record EntryPart (p : Program) (k : Contracts) (plan : Plan) (f : Frame) (fs : List Frame) : Type 0 where
   pub order : pieces plan group.Entry ≡ filter is_pre plan.clauses ++ each_captured plan.clauses
   pub begins : (x : ℕ × Piece) (l : Local) (hs : List Handling) (w : World) → runs_at plan group.Entry w.depth ≡ true → next_piece p plan group.Entry 0 f fs w ≡ Some x
-      → arrive_in p (Some plan) f (Lead plan.effective.lead_end) (with_stack l []) hs fs w ≡ at_piece p group.Entry x f l fs (raised w)
+      → arrive_in p (Some plan) f (Lead plan.effective.lead_end) (with_stack l []) hs fs w ≡ at_piece p group.Entry x (with_local l f) fs (raised w)
   pub passed_over : (l : Local) (hs : List Handling) (w : World) → runs_at plan group.Entry w.depth ≡ false
-      → arrive_in p (Some plan) f (Lead plan.effective.lead_end) (with_stack l []) hs fs w ≡ at_rest p plan f l fs w
-  pub goes_on : (i : ℕ) (x : ℕ × Piece) (l : Local) (w : World) → next_piece p plan group.Entry (i + 1) f fs w ≡ Some x
-      → piece_over p k plan group.Entry i f l fs w ≡ at_piece p group.Entry x f l fs w
-  pub ends : (i : ℕ) (l : Local) (w : World) → next_piece p plan group.Entry (i + 1) f fs w ≡ None
-      → piece_over p k plan group.Entry i f l fs w ≡ at_rest p plan f l fs (lowered w)
+      → arrive_in p (Some plan) f (Lead plan.effective.lead_end) (with_stack l []) hs fs w ≡ at_rest p plan (with_local l f) fs w
+  pub goes_on : (i : ℕ) (x : ℕ × Piece) (w : World) → next_piece p plan group.Entry (i + 1) f fs w ≡ Some x
+      → piece_over p k plan group.Entry i f fs w ≡ at_piece p group.Entry x f fs w
+  pub ends : (i : ℕ) (w : World) → next_piece p plan group.Entry (i + 1) f fs w ≡ None
+      → piece_over p k plan group.Entry i f fs w ≡ at_rest p plan f fs (lowered w)
   pub drops_exceptions : (i q x : ℕ) (w : World) (below : Below) → drops (piece_at (Some plan) group.Entry i) ≡ true
-      → gives_up p (Some plan) f (In group.Entry i q) fs w x below ≡ piece_over p k plan group.Entry i f f.local fs w
+      → gives_up p (Some plan) f (In group.Entry i q) fs w x below ≡ piece_over p k plan group.Entry i f fs w
 
 -- An exception of a group is no other group's: the depth is as before, and it goes on below at once.
 abbrev pub GroupsThrow : Program → Plan → Frame → List Frame → Type 0
@@ -52,29 +52,29 @@ GroupsThrow p plan f fs =
 -- Parts 3 and 4, where the rest returns: the postconditions in order, then the invariants in order, then the value is returned.
 pub record ReturnPart (p : Program) (k : Contracts) (plan : Plan) (f : Frame) (fs : List Frame) : Type 0 where
   pub order : pieces plan group.Exit ≡ filter is_ensures plan.clauses
-  pub begins : (q : ℕ) (x : ℕ × Piece) (l : Local) (w : World) → runs_at plan group.Exit w.depth ≡ true → next_piece p plan group.Exit 0 f fs w ≡ Some x
-      → return_from p k (Some plan) (Rest q) f l fs w ≡ at_piece p group.Exit x f l fs (raised w)
-  pub passed_over : (q : ℕ) (l : Local) (w : World) → runs_at plan group.Exit w.depth ≡ false → return_from p k (Some plan) (Rest q) f l fs w ≡ begin_invariants p k plan f l fs w
-  pub goes_on : (i : ℕ) (x : ℕ × Piece) (l : Local) (w : World) → next_piece p plan group.Exit (i + 1) f fs w ≡ Some x
-      → piece_over p k plan group.Exit i f l fs w ≡ at_piece p group.Exit x f l fs w
-  pub ends : (i : ℕ) (l : Local) (w : World) → next_piece p plan group.Exit (i + 1) f fs w ≡ None
-      → piece_over p k plan group.Exit i f l fs w ≡ begin_invariants p k plan f l fs (lowered w)
+  pub begins : (q : ℕ) (x : ℕ × Piece) (w : World) → runs_at plan group.Exit w.depth ≡ true → next_piece p plan group.Exit 0 f fs w ≡ Some x
+      → return_from p k (Some plan) (Rest q) f fs w ≡ at_piece p group.Exit x f fs (raised w)
+  pub passed_over : (q : ℕ) (w : World) → runs_at plan group.Exit w.depth ≡ false → return_from p k (Some plan) (Rest q) f fs w ≡ begin_invariants p k plan f fs w
+  pub goes_on : (i : ℕ) (x : ℕ × Piece) (w : World) → next_piece p plan group.Exit (i + 1) f fs w ≡ Some x
+      → piece_over p k plan group.Exit i f fs w ≡ at_piece p group.Exit x f fs w
+  pub ends : (i : ℕ) (w : World) → next_piece p plan group.Exit (i + 1) f fs w ≡ None
+      → piece_over p k plan group.Exit i f fs w ≡ begin_invariants p k plan f fs (lowered w)
   pub invariants : pieces plan group.Invariant ≡ plan.invariants
-  pub begins_invariants : (x : ℕ × Piece) (l : Local) (w : World) → w.depth ≡ 0 → next_piece p plan group.Invariant 0 f fs w ≡ Some x
-      → begin_invariants p k plan f l fs w ≡ at_piece p group.Invariant x f l fs (raised w)
-  pub passes_over_invariants : (l : Local) (w : World) → w.depth ≢ 0 → begin_invariants p k plan f l fs w ≡ return_to p k f l fs w
-  pub ends_invariants : (i : ℕ) (l : Local) (w : World) → next_piece p plan group.Invariant (i + 1) f fs w ≡ None
-      → piece_over p k plan group.Invariant i f l fs w ≡ return_to p k f l fs (lowered w)
+  pub begins_invariants : (x : ℕ × Piece) (w : World) → w.depth ≡ 0 → next_piece p plan group.Invariant 0 f fs w ≡ Some x
+      → begin_invariants p k plan f fs w ≡ at_piece p group.Invariant x f fs (raised w)
+  pub passes_over_invariants : (w : World) → w.depth ≢ 0 → begin_invariants p k plan f fs w ≡ return_to p k f fs w
+  pub ends_invariants : (i : ℕ) (w : World) → next_piece p plan group.Invariant (i + 1) f fs w ≡ None
+      → piece_over p k plan group.Invariant i f fs w ≡ return_to p k f fs (lowered w)
 
 -- Parts 3 and 4, where the rest throws: the clauses on exceptions whose type fits, in order, then the same exception goes on.
 pub record ThrowPart (p : Program) (k : Contracts) (plan : Plan) (f : Frame) (fs : List Frame) : Type 0 where
   pub order : pieces plan group.Throw ≡ filter is_throws plan.clauses
   pub begins : (q x : ℕ) (y : ℕ × Piece) (w : World) (below : Below) → runs_at plan group.Throw w.depth ≡ true → next_piece p plan group.Throw 0 (record f { thrown = Some x }) fs w ≡ Some y
-      → gives_up p (Some plan) f (Rest q) fs w x below ≡ at_piece p group.Throw y (record f { thrown = Some x }) f.local fs (raised w)
+      → gives_up p (Some plan) f (Rest q) fs w x below ≡ at_piece p group.Throw y (record f { thrown = Some x }) fs (raised w)
   pub passed_over : (q x : ℕ) (w : World) (below : Below) → runs_at plan group.Throw w.depth ≡ false → gives_up p (Some plan) f (Rest q) fs w x below ≡ goes_below p f w x below
   pub none_fits : (q x : ℕ) (w : World) (below : Below) → next_piece p plan group.Throw 0 (record f { thrown = Some x }) fs w ≡ None → gives_up p (Some plan) f (Rest q) fs w x below ≡ goes_below p f w x below
-  pub ends : (i x : ℕ) (l : Local) (w : World) → f.thrown ≡ Some x → next_piece p plan group.Throw (i + 1) f fs w ≡ None
-      → piece_over p k plan group.Throw i f l fs w ≡ goes_below p f (lowered w) x (λ skip v y. unwind p k skip fs v y)
+  pub ends : (i x : ℕ) (w : World) → f.thrown ≡ Some x → next_piece p plan group.Throw (i + 1) f fs w ≡ None
+      → piece_over p k plan group.Throw i f fs w ≡ goes_below p f (lowered w) x (λ skip v y. unwind p k skip fs v y)
 
 -- A call goes by these parts.
 pub record GoesByParts (p : Program) (k : Contracts) (plan : Plan) (f : Frame) (fs : List Frame) : Type 0 where

@@ -1,7 +1,7 @@
 -- Runs of further small programs, computed.
 use Rattle.std.proofs.Common.{refl}
 use Rattle.machine_rows.specs.Everything.{everything}
-use Rattle.machine_rows.specs.MoreRows.{OutsideReplyDoesntFit, FailureIsTriggered, CaughtInTheRest, FinallyRunsOnTheWayOut, FinallyRunsAfterLeave, InitializerFailsForGood, EntryRunsTheInitializer, ClosedTypesHaveTheirOwnStatics, InvariantChecksANestedCall, ValueAtReturnIsRead, RequiresOfMakesItsOwnException}
+use Rattle.machine_rows.specs.MoreRows.{OutsideReplyDoesntFit, ArgumentsThatDontFit, FailureIsTriggered, CaughtInTheRest, FinallyRunsOnTheWayOut, FinallyRunsAfterLeave, InitializerFailsForGood, EntryRunsTheInitializer, ClosedTypesHaveTheirOwnStatics, InvariantChecksANestedCall, ValueAtReturnIsRead, RequiresOfMakesItsOwnException}
 
 pub outside_reply_doesnt_fit : OutsideReplyDoesntFit
 unfolding everything
@@ -46,3 +46,7 @@ requires_of_makes_its_own_exception = refl
 pub closed_types_have_their_own_statics : ClosedTypesHaveTheirOwnStatics
 unfolding everything
 closed_types_have_their_own_statics = refl
+
+pub arguments_that_dont_fit : ArgumentsThatDontFit
+unfolding everything
+arguments_that_dont_fit = refl

@@ -1,7 +1,7 @@
 -- Plain runs of bodies spliced by hand, computed beside the runs with contracts.
 use Rattle.std.proofs.Common.{refl}
 use Rattle.machine_rows.specs.Everything.{everything}
-use Rattle.machine_rows.specs.SplicedRows.{SplicedRequiresThrows, SplicedRequiresGoesOn, SplicedEnsuresFails, SplicedEnsuresHolds, SplicedAssertFails}
+use Rattle.machine_rows.specs.SplicedRows.{SplicedRequiresThrows, SplicedRequiresGoesOn, SplicedEnsuresFails, SplicedEnsuresHolds, SplicedAssertFails, SplicedConditionIsCut}
 
 pub spliced_requires_throws : SplicedRequiresThrows
 unfolding everything
@@ -22,3 +22,7 @@ spliced_ensures_holds = refl
 pub spliced_assert_fails : SplicedAssertFails
 unfolding everything
 spliced_assert_fails = refl
+
+pub spliced_condition_is_cut : SplicedConditionIsCut
+unfolding everything
+spliced_condition_is_cut = (refl, refl)

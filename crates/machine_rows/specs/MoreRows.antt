@@ -23,14 +23,20 @@ use Rattle.cil_model.specs.declared.program.TokenRow.{TokenRow}
 use Rattle.cil_model.specs.declared.run.Outcome.TheVariants as outcome
 use Rattle.cil_model.specs.declared.run.ReplyResult.TheVariants as reply
 use Rattle.cil_semantics.specs.Core.{class, string_ty, contract_name, helper_name}
-use Rattle.machine_rows.specs.Samples.{instr, bare, ldarg, starg, int, jump, call, ret, body, int_ty, void_ty, method, class_with, outside_class, clause, no_effective, contracts, replies, null_reply, failed, sample, requires, ensures_call, on_throw, invariant, log_get, new_operation_exception, call_own, type_token, type_ref, method_token, checked, i4, returns, contract_exception_name, contract_ty}
+use Rattle.machine_rows.specs.Samples.{instr, bare, ldarg, starg, int, jump, call, ret, body, int_ty, void_ty, method, class_with, outside_class, clause, no_effective, contracts, replies, null_reply, failed, sample, requires, ensures_call, on_throw, invariant, log_get, log_find, new_operation_exception, call_own, type_token, type_ref, method_token, checked, i4, returns, contract_exception_name, contract_ty}
 use Rattle.machine_rows.specs.Rows.{with_contract, find, inc, inc_contract, inc_label, got}
 
 -- ---- a reply of another kind than the result
 
 abbrev pub OutsideReplyDoesntFit : Type 0
 OutsideReplyDoesntFit =
-    checked find (with_contract no_effective) 0 (i4 1 ∷ []) (replies (reply.Given (Text (97 ∷ []))) ∷ []) 20 ≡ Some (outcome.Stuck, [])
+    checked find (with_contract no_effective) 0 (i4 1 ∷ []) (replies (reply.Given (Text (97 ∷ []))) ∷ []) 20
+    ≡ Some (outcome.Stuck, record { member = codes "Ext.Log::Find"; args = i4 1 ∷ []; reply = replies (reply.Given (Text (97 ∷ []))) } ∷ [])
+
+-- arguments that don't fit the parameters tell nothing
+abbrev pub ArgumentsThatDontFit : Type 0
+ArgumentsThatDontFit =
+    checked (sample (method 0 (codes "Fn") [] int_ty (body (bare 0x14 ∷ log_find ∷ ret ∷ []) [] None) ∷ [])) (with_contract no_effective) 0 [] [] 20 ≡ Some (outcome.Stuck, [])
 
 -- ---- --throw off: TriggerFailure is called, and the run goes on
 

@@ -13,4 +13,4 @@ pub use rows::{
     assert_at_each_level, captured_values, lead_in_at_each_level, plain_runs,
     recursion_under_guard, requires_with_each_reply, several_exits, throw_group,
 };
-pub use spliced_rows::{spliced_assert, spliced_ensures, spliced_requires};
+pub use spliced_rows::{spliced_assert, spliced_condition, spliced_ensures, spliced_requires};

@@ -1,11 +1,13 @@
 // Runs of further small programs, computed. The programs stand in `specs/MoreRows.antt`.
 
-ghost use Rattle.machine_rows.specs.MoreRows.{OutsideReplyDoesntFit, FailureIsTriggered, CaughtInTheRest, FinallyRunsOnTheWayOut, FinallyRunsAfterLeave, InitializerFailsForGood, EntryRunsTheInitializer, ClosedTypesHaveTheirOwnStatics, InvariantChecksANestedCall, ValueAtReturnIsRead, RequiresOfMakesItsOwnException};
+ghost use Rattle.machine_rows.specs.MoreRows.{OutsideReplyDoesntFit, ArgumentsThatDontFit, FailureIsTriggered, CaughtInTheRest, FinallyRunsOnTheWayOut, FinallyRunsAfterLeave, InitializerFailsForGood, EntryRunsTheInitializer, ClosedTypesHaveTheirOwnStatics, InvariantChecksANestedCall, ValueAtReturnIsRead, RequiresOfMakesItsOwnException};
 
-/// A reply of another kind than the member's result.
-#[tactic(auto, using(crate::proofs::MoreRowLaws::outside_reply_doesnt_fit))]
+/// A reply of another kind than the member's result is told; arguments of another kind than its
+/// parameters aren't.
+#[tactic(auto, using(crate::proofs::MoreRowLaws::outside_reply_doesnt_fit, crate::proofs::MoreRowLaws::arguments_that_dont_fit))]
 pub fn reply_that_doesnt_fit()
-    ensures { OutsideReplyDoesntFit }
+    ensures told { OutsideReplyDoesntFit }
+    ensures untold { ArgumentsThatDontFit }
 {}
 
 /// Where failures don't throw, a second call outside tells of them.
