@@ -5,7 +5,8 @@ use Rattle.cil_model.specs.declared.contract.Contracts.{Contracts}
 use Rattle.cil_model.specs.declared.program.Program.{Program}
 use Rattle.cil_model.specs.declared.run.Reply.{Reply}
 use Rattle.cil_semantics.specs.Checks.{Numbers}
-use Rattle.cil_semantics.specs.State.{Item, State, Next, Goes, Ends, untold, told_after, goes_after}
+use Rattle.cil_semantics.specs.declared.state.Item.{Item}
+use Rattle.cil_semantics.specs.State.{State, Next, Goes, Ends, untold, told_after, goes_after}
 use Rattle.cil_semantics.specs.Machine.{step, step_frames, start, runs, run, and_then}
 use Rattle.machine_laws.specs.Simulation.{IsPrefix, trace_of, Grows}
 use Rattle.machine_laws.proofs.LiftLaws.{prefix_refl, grown_from}

@@ -4,7 +4,9 @@ use Rattle.std.proofs.lemmas.Bool.{cases_lt}
 use Rattle.std.proofs.lemmas.List.{append-nil}
 use Rattle.cil_model.specs.declared.run.Outcome.{Outcome}
 use Rattle.cil_model.specs.declared.run.Outcome.TheVariants as outcome
-use Rattle.cil_semantics.specs.State.{World, Item, State, Next, Goes, Ends}
+use Rattle.cil_semantics.specs.declared.state.World.{World}
+use Rattle.cil_semantics.specs.declared.state.Item.{Item}
+use Rattle.cil_semantics.specs.State.{State, Next, Goes, Ends}
 use Rattle.cil_semantics.specs.Machine.{and_then, runs}
 use Rattle.machine_laws.specs.Simulation.{IsPrefix, trace_of, Grows, weight, Match, Simulates, EndsAlike, Lifts}
 

@@ -7,7 +7,8 @@ use Rattle.cil_model.specs.declared.run.Outcome.{Outcome}
 use Rattle.cil_model.specs.declared.run.Reply.{Reply}
 use Rattle.cil_model.specs.NoContracts.{no_contracts}
 use Rattle.cil_semantics.specs.Checks.{Numbers}
-use Rattle.cil_semantics.specs.State.{World, State, Next, Goes, Ends}
+use Rattle.cil_semantics.specs.declared.state.World.{World}
+use Rattle.cil_semantics.specs.State.{State, Next, Goes, Ends}
 use Rattle.cil_semantics.specs.Machine.{step, start, runs, run, plain_run, and_then, numbers_past}
 use Rattle.machine_laws.specs.Simulation.{IsPrefix, trace_of, weight, Match, Simulates, EndsAlike, Lifted}
 use Rattle.machine_laws.specs.Same.{Same, SameWorld, IsEntry, Meets, BeginsAlike, AnswersSteps, bound_of, plain_step}

@@ -4,7 +4,12 @@ use Rattle.cil_model.specs.declared.contract.Contracts.{Contracts}
 use Rattle.cil_model.specs.declared.contract.Group.{Group}
 use Rattle.cil_model.specs.declared.contract.Group.TheVariants as group
 use Rattle.cil_model.specs.declared.program.Program.{Program}
-use Rattle.cil_semantics.specs.State.{World, Local, Lead, In, Rest, Handling, Frame, Next, with_local, with_stack, raised, lowered}
+use Rattle.cil_semantics.specs.declared.state.World.{World}
+use Rattle.cil_semantics.specs.declared.state.Local.{Local}
+use Rattle.cil_semantics.specs.declared.state.At.TheVariants.{Lead, In, Rest}
+use Rattle.cil_semantics.specs.declared.state.Handling.{Handling}
+use Rattle.cil_semantics.specs.declared.state.Frame.{Frame}
+use Rattle.cil_semantics.specs.State.{Next, with_local, with_stack, raised, lowered}
 use Rattle.cil_semantics.specs.Contracted.{Piece, Plan, pieces, runs_at, is_pre, each_captured, is_ensures, is_throws}
 use Rattle.cil_semantics.specs.Unwind.{piece_at, goes_at, arrive_in, next_piece, gives_up, ends_frame, drops, unwind, Below}
 use Rattle.cil_semantics.specs.Frames.{first_place}

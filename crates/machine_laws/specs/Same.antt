@@ -12,13 +12,15 @@ use Rattle.cil_model.specs.declared.run.Reply.{Reply}
 use Rattle.cil_model.specs.declared.run.Outcome.{Outcome}
 use Rattle.cil_model.specs.NoContracts.{no_contracts}
 use Rattle.cil_semantics.specs.Words.{maybe}
-use Rattle.cil_semantics.specs.Core.{Name, string_ty, helper_name}
+use Rattle.cil_semantics.specs.Core.{Name, string_ty, helper_name, kind_ty, exception_ty, event_params}
 use Rattle.cil_semantics.specs.Lookups.{type_of, field_of, method_of, in_set}
-use Rattle.cil_semantics.specs.State.{World, Statics, State, Next, Goes, Ends}
+use Rattle.cil_semantics.specs.declared.state.World.{World}
+use Rattle.cil_semantics.specs.declared.state.Statics.{Statics}
+use Rattle.cil_semantics.specs.State.{State, Next, Goes, Ends}
 use Rattle.cil_semantics.specs.Contracted.{effective_of}
 use Rattle.cil_semantics.specs.Frames.{param_types, owner_type}
 use Rattle.cil_semantics.specs.Outside.{all_fit, fits}
-use Rattle.cil_semantics.specs.Checks.{Numbers, kind_ty, exception_ty}
+use Rattle.cil_semantics.specs.Checks.{Numbers}
 use Rattle.cil_semantics.specs.Machine.{start, step, runs, run, plain_run, empty_world, numbers_past}
 use Rattle.machine_laws.specs.Simulation.{IsPrefix, trace_of, EndsAlike, Match, weight}
 
@@ -83,7 +85,7 @@ pub record NamesAdded (p p' : Program) (target : ℕ) (g : Numbers) : Type 0 whe
   pub unused : length p.types ≤ g.exception
   pub exception : g.exception < length p'.types → IsFailureClass p' g.exception target
   pub constructor : (name : Name) → g.constructor name < length p'.methods → IsConstructor p' (g.constructor name) name
-  pub event : g.event < length p'.methods → IsHelper p' g.event (codes "RaiseContractFailedEvent") (kind_ty ∷ string_ty ∷ string_ty ∷ exception_ty ∷ []) string_ty
+  pub event : g.event < length p'.methods → IsHelper p' g.event (codes "RaiseContractFailedEvent") event_params string_ty
   pub trigger : g.trigger < length p'.methods → IsHelper p' g.trigger (codes "TriggerFailure") (kind_ty ∷ string_ty ∷ string_ty ∷ string_ty ∷ exception_ty ∷ []) (Prim 0x01)
 
 -- ---- worlds

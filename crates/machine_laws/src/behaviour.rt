@@ -10,7 +10,8 @@ ghost use Rattle.cil_semantics.specs.Checks.{Numbers};
 ghost use Rattle.cil_semantics.specs.Machine.{step, run};
 ghost use Rattle.machine_laws.specs.Same.{AnswersSteps, Same};
 ghost use Rattle.machine_laws.specs.Simulation.{Grows, IsPrefix, trace_of};
-ghost use Rattle.cil_semantics.specs.State.{Item, State, told_after, goes_after};
+ghost use Rattle.cil_semantics.specs.declared.state.Item.{Item};
+ghost use Rattle.cil_semantics.specs.State.{State, told_after, goes_after};
 
 /// A step never takes back what was told, and neither do further steps of a run. What was told before
 /// changes nothing of a step.

@@ -5,7 +5,7 @@ ghost use Rattle.cil_model.specs.declared.contract.Contracts.{Contracts};
 ghost use Rattle.cil_model.specs.declared.program.Program.{Program};
 ghost use Rattle.cil_semantics.specs.Contracted.{Plan};
 ghost use Rattle.machine_laws.specs.FourParts.{GoesByParts};
-ghost use Rattle.cil_semantics.specs.State.{Frame};
+ghost use Rattle.cil_semantics.specs.declared.state.Frame.{Frame};
 
 /// A call with contracts runs its lead-in, its entry group, its rest, and then its postconditions
 /// and invariants or, where the rest throws, its clauses on exceptions. `GoesByParts` says which

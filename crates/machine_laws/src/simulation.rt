@@ -1,7 +1,8 @@
 // From one step of two machines to their whole runs.
 
 ghost use Rattle.std.specs.Prelude.{ℕ};
-ghost use Rattle.cil_semantics.specs.State.{World, State, Next};
+ghost use Rattle.cil_semantics.specs.declared.state.World.{World};
+ghost use Rattle.cil_semantics.specs.State.{State, Next};
 ghost use Rattle.machine_laws.specs.Simulation.{Simulates, Lifts};
 
 /// Two machines, of which the second answers each step of the first.
