@@ -16,7 +16,9 @@ use Rattle.cil_model.specs.declared.program.Meaning.TheVariants.{OfMethod}
 use Rattle.cil_semantics.specs.Places.{Cell, holds}
 use Rattle.cil_semantics.specs.Tokens.{meaning_here}
 use Rattle.cil_semantics.specs.State.{World, At, Lead, In, Rest, Frame, State, Next, Goes, Ends, Pushes, pushed, with_stack, with_objects, untold, goes_after}
-use Rattle.cil_semantics.specs.Classes.{Class, class_of, LoadLocal, StoreLocal, LocalAddress}
+use Rattle.il_opcodes.specs.declared.class.Class.{Class}
+use Rattle.il_opcodes.specs.declared.class.Class.TheVariants.{LoadLocal, StoreLocal, LocalAddress}
+use Rattle.il_opcodes.specs.Opcodes.{class_of}
 use Rattle.cil_semantics.specs.Acts.{Act, Is_stuck, Goes_on, Jumps, Raises, Throws, Throws_again, Leaves, Ends_handler, Returns, Loads, Stores, Copies, Uses_static, Calls, Calls_virtual, Makes, Finds_virtual}
 use Rattle.cil_semantics.specs.Instructions.{act}
 use Rattle.cil_semantics.specs.Contracted.{Piece, Plan}
