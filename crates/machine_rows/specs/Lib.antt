@@ -3,3 +3,4 @@ pub mod Samples
 pub mod Rows
 pub mod MoreRows
 pub mod SplicedRows
+pub mod EdgeRows
