@@ -21,19 +21,19 @@ use Rattle.cil_semantics.specs.Dispatch.{methods_of, is_public}
 use Rattle.cil_semantics.specs.Numbers.{B8}
 use Rattle.cil_semantics.specs.Places.{Truncated, Reference, stored, set_cell}
 use Rattle.cil_semantics.specs.State as state
-use Rattle.cil_semantics.specs.State.{Object, World, At, Lead, In, Rest, Frame, Next, Then_throws, Back, pushed, with_stack, next_object, with_object}
+use Rattle.cil_semantics.specs.State.{Object, World, ProgramPoint, LeadIn, InGroup, Rest, Frame, Next, ThrowObject, Continuation, pushed, with_stack, next_object, with_object}
 use Rattle.cil_semantics.specs.Tokens.{nests_little, ref_type}
 use Rattle.cil_semantics.specs.ContractCalls.{has_message, count_checks}
 use Rattle.cil_semantics.specs.Acts.{ty_name, isnt_zero}
 use Rattle.cil_semantics.specs.Contracted.{Piece, Plan, rank}
 use Rattle.cil_semantics.specs.Unwind.{here_of, unwind}
 use Rattle.cil_semantics.specs.Frames.{stuck, if_there, go_on}
-use Rattle.cil_semantics.specs.Outside.{Answer, Answers, Throws_out, Unfit, Member, ask, ask_new}
+use Rattle.cil_semantics.specs.Outside.{Answer, Returned, Threw, Unfit, Member, ask, ask_new}
 use Rattle.cil_semantics.specs.Returns.{piece_over}
 use Rattle.cil_semantics.specs.Calls.{Use, make, is_core_exception}
 
 -- The numbers that a program gives what a rewriting appends: the exception class, the two members of ContractHelper, and of an outside type its constructor of a text.
-pub record Numbers : Type 0 where
+pub record AddedNumbers : Type 0 where
   pub exception : ℕ
   pub event : ℕ
   pub trigger : ℕ
@@ -87,11 +87,11 @@ kind_number kind.Assert = 4
 kind_number kind.Assume = 5
 
 -- the member that a failure is reported to; by default it replies the label
-abbrev pub event_member : Numbers → Value → Member
+abbrev pub event_member : AddedNumbers → Value → Member
 event_member g label =
     record { number = g.event; name = helper_name ++ (codes "::" ++ event_name); params = event_params; result = string_ty; default = Some label }
 
-abbrev pub trigger_member : Numbers → Member
+abbrev pub trigger_member : AddedNumbers → Member
 trigger_member g =
     record { number = g.trigger; name = helper_name ++ codes "::TriggerFailure"; params = kind_ty ∷ string_ty ∷ string_ty ∷ string_ty ∷ exception_ty ∷ []; result = Prim 0x01; default = None }
 
@@ -102,7 +102,7 @@ abbrev pub number_value : Failure → Value
 number_value x = I4 (pos (kind_number x.kind))
 
 -- the exception of a failed clause, of a class that no program of the input has
-abbrev pub contract_failure : Numbers → Failure → Object
+abbrev pub contract_failure : AddedNumbers → Failure → Object
 contract_failure g x =
     record { ty = Known g.exception; cells = record { ty = Prim 0x08; value = number_value x } ∷ record { ty = string_ty; value = x.user } ∷ record { ty = string_ty; value = label_text x } ∷ [] }
 
@@ -121,7 +121,7 @@ abbrev pub own_constructor : Program → Ty → ℕ → Value → Option (ℕ ×
 own_constructor p t home text =
     or_else (option_map (λ m. (m, text ∷ [])) (constructor_with p t home (string_ty ∷ []))) (option_map (λ m. (m, [])) (constructor_with p t home []))
 
-abbrev pub constructor_member : Program → Numbers → Ty → Member
+abbrev pub constructor_member : Program → AddedNumbers → Ty → Member
 constructor_member p g t =
     record { number = g.constructor (ty_name p t); name = ty_name p t ++ codes "::.ctor"; params = string_ty ∷ []; result = Prim 0x01; default = None }
 
@@ -145,14 +145,14 @@ pub record Sequel : Type 0 where
   pub stops : World → Next
 
 -- What follows a failure, by what is done then. Failures throw, or are told of only.
-module _ (p : Program) (g : Numbers) (throwing : Bool) (x : Failure) (sequel : Sequel) where
+module _ (p : Program) (g : AddedNumbers) (throwing : Bool) (x : Failure) (sequel : Sequel) where
   abbrev pub throw_made : World → Value-F Value → Next
   throw_made w (Value-F.Obj y) = sequel.throws w y
   throw_made w _ = sequel.stops w
 
   abbrev pub after_new : Answer → Next
-  after_new (Answers v fs w) = maybe (sequel.stops w) (λ y. throw_made w (out-Value y)) v
-  after_new (Throws_out y fs w) = sequel.throws w y
+  after_new (Returned v fs w) = maybe (sequel.stops w) (λ y. throw_made w (out-Value y)) v
+  after_new (Threw y fs w) = sequel.throws w y
   after_new (Unfit w) = sequel.stops w
 
   -- a new E that is outside: a core exception at once, another one by a call outside
@@ -169,8 +169,8 @@ module _ (p : Program) (g : Numbers) (throwing : Bool) (x : Failure) (sequel : S
 
   -- after TriggerFailure the run goes on, unless an exception is its reply
   abbrev pub triggered : Answer → Next
-  triggered (Answers v fs w) = sequel.passes w
-  triggered (Throws_out y fs w) = sequel.throws w y
+  triggered (Returned v fs w) = sequel.passes w
+  triggered (Threw y fs w) = sequel.throws w y
   triggered (Unfit w) = sequel.stops w
 
   abbrev pub fail_with : ClauseKind → Value → List Frame → World → Next
@@ -187,8 +187,8 @@ module _ (p : Program) (g : Numbers) (throwing : Bool) (x : Failure) (sequel : S
   replied _ fs w = sequel.stops w
 
   abbrev pub reported : List Frame → Answer → Next
-  reported fs (Answers v gs w) = maybe (sequel.stops w) (λ y. replied (out-Value y) fs w) v
-  reported fs (Throws_out y gs w) = sequel.throws w y
+  reported fs (Returned v gs w) = maybe (sequel.stops w) (λ y. replied (out-Value y) fs w) v
+  reported fs (Threw y gs w) = sequel.throws w y
   reported fs (Unfit w) = sequel.stops w
 
   -- A failure is reported outside. A null reply goes on, a text throws, an exception is thrown.
@@ -206,7 +206,7 @@ abbrev pub throws_new : Program → Contracts → Use
 throws_new p k =
     record {
       now = λ v fs w. if_there (number_of_object (out-Value v)) w (λ x. unwind p k false fs w x);
-      later = λ v. maybe Back.Pushes Then_throws (number_of_object (out-Value v));
+      later = λ v. maybe Continuation.Push ThrowObject (number_of_object (out-Value v));
     }
 
 -- the frames go on where the clause passes
@@ -219,16 +219,16 @@ goes_on_from p k fs passes =
       stops = stuck;
     }
 
-abbrev pub fail : Program → Contracts → Numbers → Failure → List Frame → World → (World → Next) → Next
+abbrev pub fail : Program → Contracts → AddedNumbers → Failure → List Frame → World → (World → Next) → Next
 fail p k g x fs w passes = failing p g k.settings.throwing x (goes_on_from p k fs passes) fs w
 
 -- ---- contract calls where they stand
 
-abbrev pub check : Program → Contracts → Numbers → Failure → Bool → List Frame → World → (World → Next) → Next
+abbrev pub check : Program → Contracts → AddedNumbers → Failure → Bool → List Frame → World → (World → Next) → Next
 check p k g x b fs w passes = if b then passes w else fail p k g x fs w passes
 
 -- an Assert or Assume: checked at the full level, else its arguments are dropped
-abbrev pub check_inline : Program → Contracts → Numbers → Plan → ClauseKind → ℕ → Name → Instr → Frame → List Frame → World → Next
+abbrev pub check_inline : Program → Contracts → AddedNumbers → Plan → ClauseKind → ℕ → Name → Instr → Frame → List Frame → World → Next
 check_inline p k g plan c home label i f fs w =
     let message : Bool = has_message p i in
     if rank plan.settings.level == 4
@@ -238,7 +238,7 @@ check_inline p k g plan c home label i f fs w =
     else if_there (dropped message f.local.stack) w (λ rest. go_on p k f (with_stack f.local rest) fs w)
 
 -- the call that ends a clause
-abbrev pub end_clause : Program → Contracts → Numbers → Plan → Group → ℕ → Piece → Instr → Frame → List Frame → World → Next
+abbrev pub end_clause : Program → Contracts → AddedNumbers → Plan → Group → ℕ → Piece → Instr → Frame → List Frame → World → Next
 end_clause p k g plan gr n x i f fs w =
     if_there (condition_in (has_message p i) f.local.stack) w (λ (c : Condition).
     let l : state.Local = with_stack f.local c.rest in
@@ -267,7 +267,7 @@ abbrev pub inline_label : List Clause → ℕ → Name
 inline_label cs n = maybe [] (λ (c : Clause). c.label) (slice_get cs n)
 
 -- Which Assert or Assume stands at a place: in the lead-in they are counted from the front. Behind it calls of abbreviators may hold further ones, so in the rest they are counted from the end.
-abbrev pub inline_number : Program → List Clause → List Instr → At → ℕ
+abbrev pub inline_number : Program → List Clause → List Instr → ProgramPoint → ℕ
 inline_number p cs is (Rest q) = length cs - count_checks p (drop q is)
-inline_number p cs is (Lead q) = count_checks p (take q is)
-inline_number p cs is (In gr n q) = 0
+inline_number p cs is (LeadIn q) = count_checks p (take q is)
+inline_number p cs is (InGroup gr n q) = 0

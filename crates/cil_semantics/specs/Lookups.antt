@@ -10,11 +10,11 @@ use Rattle.cil_model.specs.declared.program.FieldDesc.{FieldDesc}
 use Rattle.cil_model.specs.declared.program.MethodDesc.{MethodDesc}
 use Rattle.cil_model.specs.declared.program.Kind.TheVariants.{Class}
 use Rattle.cil_semantics.specs.Types.{Layer, under, all_under, same_ty}
-use Rattle.cil_semantics.specs.Core.{class, object_ty, outside_base}
+use Rattle.cil_semantics.specs.Core.{class_named, object_ty, outside_base}
 
 -- The class of the exception that a failed clause makes. It stands for each number past the types of a program.
 unfoldable pub contract_exception : TypeDesc
-contract_exception = record { assembly = 0; row = 0; name = codes "__ContractsRuntime/ContractException"; base = Some (class (codes "System.Exception")); kind = Class; interfaces = []; fields = []; methods = []; impls = []; enclosing = None; flags = 0; outside = false; reference = false; contract_class = None; contract_class_for = None; generated = false; generics = 0 }
+contract_exception = record { assembly = 0; row = 0; name = codes "__ContractsRuntime/ContractException"; base = Some (class_named (codes "System.Exception")); kind = Class; interfaces = []; fields = []; methods = []; impls = []; enclosing = None; flags = 0; outside = false; reference = false; contract_class = None; contract_class_for = None; generated = false; generics = 0 }
 
 abbrev pub type_of : Program → ℕ → TypeDesc
 type_of p k = unwrap_or (slice_get p.types k) contract_exception
@@ -38,17 +38,13 @@ in_set (Ty-F.Inst k args) = Some (k, args)
 in_set _ = None
 
 abbrev pub args_of : Ty → List Ty
-args_of t = args_in (in_set (out-Ty t))
-  where
-    args_in : Option (ℕ × List Ty) → List Ty
-    args_in None = []
-    args_in (Some d) = d.1
+args_of t = maybe [] (λ (d : ℕ × List Ty). d.1) (in_set (out-Ty t))
 
 -- The base of a type that is not of the set: System.Object for all that have no other, but for System.Object itself.
 abbrev pub built_in_base : Layer → Option Ty
-built_in_base (Ty-F.Prim b) = if b == 0x1C then None else if b == 0x0E then Some object_ty else Some (class (codes "System.ValueType"))
+built_in_base (Ty-F.Prim b) = if b == 0x1C then None else if b == 0x0E then Some object_ty else Some (class_named (codes "System.ValueType"))
 built_in_base (Ty-F.Outside name value) = Some (outside_base name value)
-built_in_base (Ty-F.Array item) = Some (class (codes "System.Array"))
+built_in_base (Ty-F.Array item) = Some (class_named (codes "System.Array"))
 built_in_base _ = Some object_ty
 
 -- System.Object where a row names none, as an interface's does

@@ -10,8 +10,8 @@ use Rattle.cil_model.specs.declared.run.Outcome.TheVariants as outcome
 use Rattle.cil_semantics.specs.Words.{maybe, same_bool}
 use Rattle.cil_semantics.specs.Types.{under}
 use Rattle.cil_semantics.specs.Lookups.{method_of}
-use Rattle.cil_semantics.specs.Places.{Storage, Cell, Void, holds, stored_in}
-use Rattle.cil_semantics.specs.State.{World, with_local, At, Lead, In, Rest, Frame, Next, Ends, Back, Pushes, Makes, Makes_struct, Then_throws, Begins, Uses, Tries, Left, pushed, lowered}
+use Rattle.cil_semantics.specs.Places.{Storage, Cell, Void, storage, stored_in}
+use Rattle.cil_semantics.specs.State.{World, with_local, ProgramPoint, LeadIn, InGroup, Rest, Frame, Next, Ended, Continuation, Push, PushObject, PushStruct, ThrowObject, BeginCallee, UseField, TryNext, Remaining, pushed, lowered}
 use Rattle.cil_semantics.specs.Acts.{flag, truth}
 use Rattle.cil_semantics.specs.Contracted.{Plan}
 use Rattle.cil_semantics.specs.Unwind.{plan_at, begin_group, begin_piece, begin_rest, next_piece, ends_frame, unwind}
@@ -19,7 +19,7 @@ use Rattle.cil_semantics.specs.Frames.{stuck, if_there, go_on, begin, use_static
 
 -- the value is pushed in the frame below, which goes on
 abbrev pub push_below : Program → Contracts → Option Value → List Frame → World → Next
-push_below p k v [] w = Ends (outcome.Return v) w
+push_below p k v [] w = Ended (outcome.Return v) w
 push_below p k v (f ∷ fs) w = go_on p k f (maybe f.local (λ x. pushed x f.local) v) fs w
 
 -- the struct that a constructor made stands behind its arguments
@@ -31,11 +31,11 @@ last_cell cs = first_of (reverse cs)
     first_of (c ∷ rest) = Some c.value
 
 -- ForAll and Exists try what is left, and stop at the first false or true answer
-abbrev pub try_next : Program → Contracts → (exists : Bool) → Value → Option (Value × Left) → List Frame → World → Next
+abbrev pub try_next : Program → Contracts → (exists : Bool) → Value → Option (Value × Remaining) → List Frame → World → Next
 try_next p k exists target None fs w = push_below p k (Some (flag (not exists))) fs w
-try_next p k exists target (Some x) fs w = enter_delegate p k true (out-Value target) (x.0 ∷ []) (Tries exists target x.1) fs w
+try_next p k exists target (Some x) fs w = enter_delegate p k true (out-Value target) (x.0 ∷ []) (TryNext exists target x.1) fs w
 
-abbrev pub tried : Program → Contracts → (exists : Bool) → Value → Left → Option Bool → List Frame → World → Next
+abbrev pub tried : Program → Contracts → (exists : Bool) → Value → Remaining → Option Bool → List Frame → World → Next
 tried p k exists target left None fs w = stuck w
 tried p k exists target left (Some b) fs w =
     if same_bool exists b then push_below p k (Some (flag exists)) fs w else try_next p k exists target (next_try w left) fs w
@@ -45,18 +45,18 @@ begin_below p k [] w = stuck w
 begin_below p k (f ∷ fs) w = begin p k f fs w
 
 -- A frame returns a value or none to the frame below.
-abbrev pub return_by : Program → Contracts → Back → List Cell → Option Value → List Frame → World → Next
-return_by p k Pushes args v fs w = push_below p k v fs w
-return_by p k (Makes x) args v fs w = push_below p k (Some x) fs w
-return_by p k Makes_struct args v fs w = push_below p k (last_cell args) fs w
-return_by p k (Then_throws x) args v fs w = unwind p k false fs w x
-return_by p k Begins args v fs w = begin_below p k fs w
-return_by p k (Uses a) args v [] w = stuck w
-return_by p k (Uses a) args v (f ∷ fs) w = use_static p k a f f.local fs w
-return_by p k (Tries exists target left) args v fs w = tried p k exists target left (option_and_then truth v) fs w
+abbrev pub return_with : Program → Contracts → Continuation → List Cell → Option Value → List Frame → World → Next
+return_with p k Push args v fs w = push_below p k v fs w
+return_with p k (PushObject x) args v fs w = push_below p k (Some x) fs w
+return_with p k PushStruct args v fs w = push_below p k (last_cell args) fs w
+return_with p k (ThrowObject x) args v fs w = unwind p k false fs w x
+return_with p k BeginCallee args v fs w = begin_below p k fs w
+return_with p k (UseField a) args v [] w = stuck w
+return_with p k (UseField a) args v (f ∷ fs) w = use_static p k a f f.local fs w
+return_with p k (TryNext exists target left) args v fs w = tried p k exists target left (option_and_then truth v) fs w
 
 unfoldable pub return_to : Program → Contracts → Frame → List Frame → World → Next
-return_to p k f fs w = return_by p k f.back f.local.args f.local.result fs w
+return_to p k f fs w = return_with p k f.continuation f.local.args f.local.result fs w
 
 abbrev pub begin_invariants : Program → Contracts → Plan → Frame → List Frame → World → Next
 begin_invariants p k plan f fs w = begin_group p plan group.Invariant f fs w (return_to p k f fs w)
@@ -67,7 +67,7 @@ group_over p k plan group.Entry f fs w = begin_rest p plan f fs w
 group_over p k plan group.Exit f fs w = begin_invariants p k plan f fs w
 group_over p k plan group.Invariant f fs w = return_to p k f fs w
 group_over p k plan group.Throw f fs w =
-    maybe (stuck w) (λ x. ends_frame p f.initializes f.back w x (λ skip v y. unwind p k skip fs v y)) f.thrown
+    maybe (stuck w) (λ x. ends_frame p f.initializes f.continuation w x (λ skip v y. unwind p k skip fs v y)) f.thrown
 group_over p k plan group.Inline f fs w = stuck w
 
 -- a piece of a group is over: the next one begins
@@ -89,12 +89,12 @@ result_type p f = under f.type_args f.method_args (method_of p f.method).result
 
 -- what is returned: nothing, or the value on top as a place of the result's type keeps it
 abbrev pub returned : Program → Frame → List Value → Option (Option Value)
-returned p f stack = kept_as p (result_type p f) (holds p (result_type p f)) stack
+returned p f stack = kept_as p (result_type p f) (storage p (result_type p f)) stack
 
-abbrev pub return_from : Program → Contracts → Option Plan → At → Frame → List Frame → World → Next
+abbrev pub return_from : Program → Contracts → Option Plan → ProgramPoint → Frame → List Frame → World → Next
 return_from p k None at f fs w = return_to p k f fs w
-return_from p k (Some plan) (Lead q) f fs w = return_to p k f fs w
-return_from p k (Some plan) (In g i q) f fs w = stuck w
+return_from p k (Some plan) (LeadIn q) f fs w = return_to p k f fs w
+return_from p k (Some plan) (InGroup g i q) f fs w = stuck w
 return_from p k (Some plan) (Rest q) f fs w = begin_group p plan group.Exit f fs w (begin_invariants p k plan f fs w)
 
 -- In the lead-in, as without contracts, ret ends the call at once; in the rest the groups come first.

@@ -122,16 +122,16 @@ pub type StaticsList = Items<Statics>;
 #[derive(Drop)]
 pub struct Item {
     pub member: u64,
-    pub told: TraceItem,
+    pub recorded: TraceItem,
 }
 
 /// Items of a trace.
 #[derive(Drop)]
-pub struct Told {
+pub struct Recorded {
     items: Vec<Item>,
 }
 
-impl Model for Told {
+impl Model for Recorded {
     ghost use Rattle.std.specs.Prelude.{List};
     ghost use Rattle.std.specs.Coded.{codes};
     ghost use Rattle.cil_semantics.specs.declared.state.Item.{Item};
@@ -145,11 +145,11 @@ impl Model for Told {
     ghost view = { λ s. s.items.items };
 }
 
-impl Told {
-    pub fn new(alloc: Global) -> Told
+impl Recorded {
+    pub fn new(alloc: Global) -> Recorded
         ensures { result ≡ [] }
     {
-        Told {
+        Recorded {
             items: Vec::new(alloc),
         }
     }
@@ -168,7 +168,7 @@ impl Told {
     }
 
     /// Moves the items of `more` to the end.
-    pub fn append(&mut self, more: &mut Told) -> Result<(), AllocError>
+    pub fn append(&mut self, more: &mut Recorded) -> Result<(), AllocError>
         ensures ok { IfOk result (λ _. self.new ≡ self.old ++ more.old) }
         ensures moved { IfOk result (λ _. more.new ≡ []) }
     {
@@ -176,21 +176,21 @@ impl Told {
     }
 
     /// What is told, without the members' numbers.
-    pub fn told(self, alloc: Global) -> Result<Trace, AllocError>
-        ensures { IfOk result (λ trace. trace ≡ map (λ i. i.told) self) }
+    pub fn recorded(self, alloc: Global) -> Result<Trace, AllocError>
+        ensures { IfOk result (λ trace. trace ≡ map (λ i. i.recorded) self) }
     {
-        let Told { items } = self;
-        let told = items.into_iter().map(|item| item.told).collect(alloc)?;
-        Ok(Items::from_vec(told))
+        let Recorded { items } = self;
+        let recorded = items.into_iter().map(|item| item.recorded).collect(alloc)?;
+        Ok(Items::from_vec(recorded))
     }
 }
 
 /// A place in a frame: in the lead-in, in a piece of a group, or in the rest. A body that runs
 /// plainly is all rest.
 #[derive(Clone, Copy)]
-pub enum At {
-    Lead(u32),
-    In(Group, u32, u32),
+pub enum ProgramPoint {
+    LeadIn(u32),
+    InGroup(Group, u32, u32),
     Rest(u32),
 }
 
@@ -198,8 +198,8 @@ pub enum At {
 #[derive(Clone, Copy)]
 pub enum Cause {
     Caught(u32),
-    Thrown_on(u32),
-    Left_for(u32),
+    Unwinding(u32),
+    Leaving(u32),
 }
 
 /// A handler that runs: its number in the table, why, from which place, and from which clause on
@@ -215,30 +215,30 @@ pub struct Handling {
 /// What a static field is used for, once its type is initialized.
 #[derive(Drop)]
 pub enum Access {
-    Reads(Pointer),
-    Writes(Pointer, Value),
-    Points(Pointer),
+    Read(Pointer),
+    Write(Pointer, Value),
+    PointTo(Pointer),
 }
 
 /// What ForAll and Exists have yet to try: numbers up to an end, or the items of an array from one on.
 #[derive(Clone, Copy)]
-pub enum Left {
-    Numbers(i32, i32),
-    Items_of(u32, u32),
+pub enum Remaining {
+    Range(i32, i32),
+    Elements(u32, u32),
 }
 
 /// What happens below when a frame returns: its value is pushed; the object or the struct that the
 /// constructor made is pushed; an exception that it made is thrown; the frame below begins; a static
 /// field is used; or ForAll or Exists goes on.
 #[derive(Drop)]
-pub enum Back {
-    Pushes,
-    Makes(Value),
-    Makes_struct,
-    Then_throws(u32),
-    Begins,
-    Uses(Access),
-    Tries(bool, Value, Left),
+pub enum Continuation {
+    Push,
+    PushObject(Value),
+    PushStruct,
+    ThrowObject(u32),
+    BeginCallee,
+    UseField(Access),
+    TryNext(bool, Value, Remaining),
 }
 
 /// Values on the evaluation stack; to contracts a list, the last pushed first.
@@ -369,10 +369,10 @@ pub struct Frame {
     pub type_args: Tys,
     pub method_args: Tys,
     pub local: Local,
-    pub at: At,
+    pub at: ProgramPoint,
     pub handling: Handlings,
     pub thrown: Option<u32>,
-    pub back: Back,
+    pub continuation: Continuation,
     pub initializes: Option<Ty>,
 }
 
@@ -419,7 +419,7 @@ pub struct World {
     pub statics: StaticsList,
     pub depth: u32,
     pub replies: Replies,
-    pub trace: Told,
+    pub trace: Recorded,
 }
 
 /// Frames; to contracts a list, the topmost first.

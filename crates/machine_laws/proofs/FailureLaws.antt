@@ -9,10 +9,10 @@ use Rattle.cil_semantics.specs.declared.state.Frame.{Frame}
 use Rattle.cil_semantics.specs.declared.state.World.{World}
 use Rattle.cil_semantics.specs.Words.{maybe}
 use Rattle.cil_semantics.specs.Tokens.{nests_little}
-use Rattle.cil_semantics.specs.Checks.{Numbers, Failure, Sequel, made_type, fail_with, throw_exception}
+use Rattle.cil_semantics.specs.Checks.{AddedNumbers, Failure, Sequel, made_type, fail_with, throw_exception}
 
 -- an E that nests over 1,000 deep is made by nothing
-pub deep_exception_stops : (p : Program) (g : Numbers) (throwing : Bool) (x : Failure) (s : Sequel) (t : Ty) (text : Value) (fs : List Frame) (w : World) → x.exception ≡ Some t → nests_little t ≡ false
+pub deep_exception_stops : (p : Program) (g : AddedNumbers) (throwing : Bool) (x : Failure) (s : Sequel) (t : Ty) (text : Value) (fs : List Frame) (w : World) → x.exception ≡ Some t → nests_little t ≡ false
     → fail_with p g throwing x s kind.RequiresOf text fs w ≡ s.stops w
 deep_exception_stops p g throwing x s t text fs w e n =
     ap (λ o. maybe (s.stops w) (λ u. throw_exception p g throwing x s u text fs w) (option_and_then (λ u. if nests_little u then Some u else None) o)) e

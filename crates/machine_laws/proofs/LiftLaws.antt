@@ -6,7 +6,7 @@ use Rattle.cil_model.specs.declared.run.Outcome.{Outcome}
 use Rattle.cil_model.specs.declared.run.Outcome.TheVariants as outcome
 use Rattle.cil_semantics.specs.declared.state.World.{World}
 use Rattle.cil_semantics.specs.declared.state.Item.{Item}
-use Rattle.cil_semantics.specs.State.{State, Next, Goes, Ends}
+use Rattle.cil_semantics.specs.State.{State, Next, Running, Ended}
 use Rattle.cil_semantics.specs.Machine.{and_then, runs}
 use Rattle.machine_laws.specs.Simulation.{IsPrefix, trace_of, Grows, weight, Match, Simulates, EndsAlike, Lifts}
 
@@ -17,8 +17,8 @@ pub prefix_trans : (xs ys zs : List Item) → IsPrefix xs ys → IsPrefix ys zs 
 prefix_trans xs ys zs a b = (a.0 ++ b.0, b.1 ∙ ap (λ l. l ++ b.0) a.1 ∙ append_assoc xs a.0 b.0)
 
 and_then_assoc : (n : Next) (f g : State → Next) → and_then (and_then n f) g ≡ and_then n (λ m. and_then (f m) g)
-and_then_assoc (Goes m) f g = refl
-and_then_assoc (Ends o w) f g = refl
+and_then_assoc (Running m) f g = refl
+and_then_assoc (Ended o w) f g = refl
 
 pub runs_plus : (go : State → Next) (j n : ℕ) (m : State) → runs go (j + n) m ≡ and_then (runs go j m) (runs go n)
 runs_plus go zero n m = let e : 0 + n ≡ n = omega arith in ap (λ k. runs go k m) e
@@ -27,24 +27,24 @@ runs_plus go (suc j) n m =
     ap (λ k. runs go k m) e ∙ inner (λ m1. runs_plus go j n m1) (go m) ∙ sym (and_then_assoc (go m) (runs go j) (runs go n))
   where
     inner : ((m1 : State) → runs go (j + n) m1 ≡ and_then (runs go j m1) (runs go n)) → (x : Next) → and_then x (runs go (j + n)) ≡ and_then x (λ m1. and_then (runs go j m1) (runs go n))
-    inner ih (Goes m1) = ih m1
-    inner ih (Ends o w) = refl
+    inner ih (Running m1) = ih m1
+    inner ih (Ended o w) = refl
 
 -- how a run that is over ended
 abbrev pub end_outcome : Next → Outcome
-end_outcome (Goes s) = outcome.Stuck
-end_outcome (Ends o w) = o
+end_outcome (Running s) = outcome.Stuck
+end_outcome (Ended o w) = o
 
 abbrev pub end_world : Next → World
-end_world (Goes s) = s.world
-end_world (Ends o w) = w
+end_world (Running s) = s.world
+end_world (Ended o w) = w
 
 abbrev pub IsGoing : Next → Type 0
-IsGoing (Goes m) = Unit {0}
-IsGoing (Ends o w) = ⊥
+IsGoing (Running m) = Unit {0}
+IsGoing (Ended o w) = ⊥
 
 -- a run that is over stays over
-stays : (go : State → Next) (j n : ℕ) (m : State) (o : Outcome) (w : World) → j ≤ n → runs go j m ≡ Ends o w → runs go n m ≡ Ends o w
+stays : (go : State → Next) (j n : ℕ) (m : State) (o : Outcome) (w : World) → j ≤ n → runs go j m ≡ Ended o w → runs go n m ≡ Ended o w
 stays go j n m o w le e =
     let s : n ≡ j + (n - j) = omega arith in
     ap (λ k. runs go k m) s ∙ runs_plus go j (n - j) m ∙ ap (λ x. and_then x (runs go (n - j))) e
@@ -55,8 +55,8 @@ grown go g zero m = prefix_refl m.world.trace
 grown go g (suc n) m = inner (λ m1. grown go g n m1) (go m) (g m)
   where
     inner : ((m1 : State) → IsPrefix m1.world.trace (trace_of (runs go n m1))) → (x : Next) → IsPrefix m.world.trace (trace_of x) → IsPrefix m.world.trace (trace_of (and_then x (runs go n)))
-    inner ih (Goes m1) p = prefix_trans m.world.trace m1.world.trace (trace_of (runs go n m1)) p (ih m1)
-    inner ih (Ends o w) p = p
+    inner ih (Running m1) p = prefix_trans m.world.trace m1.world.trace (trace_of (runs go n m1)) p (ih m1)
+    inner ih (Ended o w) p = p
 
 pub grown_from : (go : State → Next) → Grows go → (j n : ℕ) (m : State) → j ≤ n → IsPrefix (trace_of (runs go j m)) (trace_of (runs go n m))
 grown_from go g j n m le =
@@ -64,8 +64,8 @@ grown_from go g j n m le =
     subst (λ x. IsPrefix (trace_of (runs go j m)) (trace_of x)) (sym (ap (λ k. runs go k m) s ∙ runs_plus go j (n - j) m)) (inner (runs go j m))
   where
     inner : (x : Next) → IsPrefix (trace_of x) (trace_of (and_then x (runs go (n - j))))
-    inner (Goes m1) = grown go g (n - j) m1
-    inner (Ends o w) = prefix_refl w.trace
+    inner (Running m1) = grown go g (n - j) m1
+    inner (Ended o w) = prefix_refl w.trace
 
 -- the first n steps of a from m are answered by the first j of b from m'
 pub record Tracks (a b : State → Next) (E : World → World → Type 0) (R : State → State → Type 0) (c n k : ℕ) (m m' : State) : Type 0 where
@@ -79,11 +79,11 @@ module _ (a b : State → Next) (E : World → World → Type 0) (R : State → 
   Many n x y = (j : ℕ) × (j + weight f (and_then x (runs a n)) ≤ c * n + weight f x) × Match E R (and_then x (runs a n)) (and_then y (runs b j)) × (IsGoing (and_then x (runs a n)) → n ≤ j)
 
   many : (n : ℕ) (x y : Next) → Match E R x y → Many n x y
-  many n (Goes m) (Ends o' w') h = absurd h
-  many n (Ends o w) (Goes m') h = absurd h
-  many n (Ends o w) (Ends o' w') h = (0, omega arith, h, λ g. absurd g)
-  many zero (Goes m) (Goes m') h = (0, omega arith, h, λ g. omega arith)
-  many (suc n) (Goes m) (Goes m') h =
+  many n (Running m) (Ended o' w') h = absurd h
+  many n (Ended o w) (Running m') h = absurd h
+  many n (Ended o w) (Ended o' w') h = (0, omega arith, h, λ g. absurd g)
+  many zero (Running m) (Running m') h = (0, omega arith, h, λ g. omega arith)
+  many (suc n) (Running m) (Running m') h =
       let s = sim.answer m m' h in
       let r = many n (a m) (runs b (suc s.0) m') s.2 in
       let e = runs_plus b (suc s.0) r.0 m' in
@@ -92,9 +92,9 @@ module _ (a b : State → Next) (E : World → World → Type 0) (R : State → 
       bound : (j1 j2 w1 w2 w0 : ℕ) → suc j1 + w1 ≤ c + w0 → j2 + w2 ≤ c * n + w1 → suc j1 + j2 + w2 ≤ c * suc n + w0
       bound j1 j2 w1 w2 w0 p q = omega arith
 
-  pub tracks : (n j0 : ℕ) (m m' m0 : State) → R m m' → runs b j0 m0 ≡ Goes m' → j0 + f m ≤ c → Tracks a b E R c n c m m0
+  pub tracks : (n j0 : ℕ) (m m' m0 : State) → R m m' → runs b j0 m0 ≡ Running m' → j0 + f m ≤ c → Tracks a b E R c n c m m0
   tracks n j0 m m' m0 h e le =
-      let r = many n (Goes m) (Goes m') h in
+      let r = many n (Running m) (Running m') h in
       record {
         steps = j0 + r.0;
         at_least = λ g. let q : n ≤ r.0 = r.3 g in omega arith;
@@ -105,37 +105,37 @@ module _ (a b : State → Next) (E : World → World → Type 0) (R : State → 
       bound : (j w fm : ℕ) → j + w ≤ c * n + fm → j0 + fm ≤ c → j0 + j ≤ c * n + c
       bound j w fm p q = omega arith
 
-  pub ends_too : (n : ℕ) (m m0 : State) (o : Outcome) (w : World) → Tracks a b E R c n c m m0 → runs a n m ≡ Ends o w → EndsAlike (E w) (runs b (c * (n + 1)) m0) o
+  pub ends_too : (n : ℕ) (m m0 : State) (o : Outcome) (w : World) → Tracks a b E R c n c m m0 → runs a n m ≡ Ended o w → EndsAlike (E w) (runs b (c * (n + 1)) m0) o
   ends_too n m m0 o w t e =
       let s = subst (λ x. Match E R x (runs b t.steps m0)) e t.same in
       let le : t.steps ≤ c * (n + 1) = omega (arith, t.at_most) in
       inner le (runs b t.steps m0) refl s
     where
-      inner : t.steps ≤ c * (n + 1) → (y : Next) → runs b t.steps m0 ≡ y → Match E R (Ends o w) y → EndsAlike (E w) (runs b (c * (n + 1)) m0) o
-      inner le (Goes m1) q h = absurd h
-      inner le (Ends o' w') q h = (w', stays b t.steps (c * (n + 1)) m0 o w' le (q ∙ ap (λ v. Ends v w') (sym h.0)), h.1)
+      inner : t.steps ≤ c * (n + 1) → (y : Next) → runs b t.steps m0 ≡ y → Match E R (Ended o w) y → EndsAlike (E w) (runs b (c * (n + 1)) m0) o
+      inner le (Running m1) q h = absurd h
+      inner le (Ended o' w') q h = (w', stays b t.steps (c * (n + 1)) m0 o w' le (q ∙ ap (λ v. Ended v w') (sym h.0)), h.1)
 
-  pub ends_only : (n : ℕ) (m m0 : State) (o : Outcome) (w' : World) → Tracks a b E R c n c m m0 → runs b n m0 ≡ Ends o w' → EndsAlike (λ w. E w w') (runs a n m) o
+  pub ends_only : (n : ℕ) (m m0 : State) (o : Outcome) (w' : World) → Tracks a b E R c n c m m0 → runs b n m0 ≡ Ended o w' → EndsAlike (λ w. E w w') (runs a n m) o
   ends_only n m m0 o w' t e = inner (runs a n m) (runs b t.steps m0) refl refl t.at_least t.same
     where
-      alike : (o1 o2 : Outcome) (w1 w2 : World) → runs a n m ≡ Ends o1 w1 → Ends o2 w2 ≡ Ends o w' → o1 ≡ o2 → E w1 w2 → EndsAlike (λ w. E w w') (runs a n m) o
-      alike o1 o2 w1 w2 p z g h = (w1, p ∙ ap (λ v. Ends v w1) (g ∙ ap end_outcome z), subst (E w1) (ap end_world z) h)
+      alike : (o1 o2 : Outcome) (w1 w2 : World) → runs a n m ≡ Ended o1 w1 → Ended o2 w2 ≡ Ended o w' → o1 ≡ o2 → E w1 w2 → EndsAlike (λ w. E w w') (runs a n m) o
+      alike o1 o2 w1 w2 p z g h = (w1, p ∙ ap (λ v. Ended v w1) (g ∙ ap end_outcome z), subst (E w1) (ap end_world z) h)
 
       inner : (x y : Next) → runs a n m ≡ x → runs b t.steps m0 ≡ y → (IsGoing x → n ≤ t.steps) → Match E R x y → EndsAlike (λ w. E w w') (runs a n m) o
-      inner (Goes m1) (Ends o2 w2) p q l h = absurd h
-      inner (Ends o1 w1) (Goes m1') p q l h = absurd h
-      inner (Goes m1) (Goes m1') p q l h = let s = stays b n t.steps m0 o w' (l tt) e in absurd (cc (q, s))
-      inner (Ends o1 w1) (Ends o2 w2) p q l h =
+      inner (Running m1) (Ended o2 w2) p q l h = absurd h
+      inner (Ended o1 w1) (Running m1') p q l h = absurd h
+      inner (Running m1) (Running m1') p q l h = let s = stays b n t.steps m0 o w' (l tt) e in absurd (cc (q, s))
+      inner (Ended o1 w1) (Ended o2 w2) p q l h =
           ⊎_elim
           (λ lt. let le : n ≤ t.steps = omega arith in let s = stays b n t.steps m0 o w' le e in alike o1 o2 w1 w2 p (sym q ∙ s) h.0 h.1)
           (λ le. let s = stays b t.steps n m0 o2 w2 le q in alike o1 o2 w1 w2 p (sym s ∙ e) h.0 h.1)
           (cases_lt n t.steps)
 
   same_written : (x y : Next) → Match E R x y → trace_of x ≡ trace_of y
-  same_written (Goes m) (Goes m') h = sim.same_trace m m' h
-  same_written (Ends o w) (Ends o' w') h = sim.same_told w w' h.1
-  same_written (Goes m) (Ends o' w') h = absurd h
-  same_written (Ends o w) (Goes m') h = absurd h
+  same_written (Running m) (Running m') h = sim.same_trace m m' h
+  same_written (Ended o w) (Ended o' w') h = sim.same_recorded w w' h.1
+  same_written (Running m) (Ended o' w') h = absurd h
+  same_written (Ended o w) (Running m') h = absurd h
 
   -- (c)
   pub writes_no_more : Grows b → (n : ℕ) (m m0 : State) → Tracks a b E R c n c m m0 → IsPrefix (trace_of (runs b n m0)) (trace_of (runs a n m))
@@ -143,9 +143,9 @@ module _ (a b : State → Next) (E : World → World → Type 0) (R : State → 
       subst (IsPrefix (trace_of (runs b n m0))) (sym (same_written (runs a n m) (runs b t.steps m0) t.same)) (inner (runs a n m) (runs b t.steps m0) refl t.at_least t.same)
     where
       inner : (x y : Next) → runs b t.steps m0 ≡ y → (IsGoing x → n ≤ t.steps) → Match E R x y → IsPrefix (trace_of (runs b n m0)) (trace_of (runs b t.steps m0))
-      inner (Goes m1) y q l h = grown_from b g n t.steps m0 (l tt)
-      inner (Ends o1 w1) (Goes m1') q l h = absurd h
-      inner (Ends o1 w1) (Ends o' w') q l h =
+      inner (Running m1) y q l h = grown_from b g n t.steps m0 (l tt)
+      inner (Ended o1 w1) (Running m1') q l h = absurd h
+      inner (Ended o1 w1) (Ended o' w') q l h =
           ⊎_elim
           (λ lt. let le : n ≤ t.steps = omega arith in grown_from b g n t.steps m0 le)
           (λ le. let s = stays b t.steps n m0 o' w' le q in subst (λ z. IsPrefix (trace_of z) (trace_of (runs b t.steps m0))) (q ∙ sym s) (prefix_refl (trace_of (runs b t.steps m0))))

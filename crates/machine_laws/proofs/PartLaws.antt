@@ -9,7 +9,7 @@ use Rattle.cil_model.specs.declared.program.Program.{Program}
 use Rattle.cil_semantics.specs.Words.{maybe}
 use Rattle.cil_semantics.specs.declared.state.World.{World}
 use Rattle.cil_semantics.specs.declared.state.Local.{Local}
-use Rattle.cil_semantics.specs.declared.state.At.TheVariants.{Lead}
+use Rattle.cil_semantics.specs.declared.state.ProgramPoint.TheVariants.{LeadIn}
 use Rattle.cil_semantics.specs.declared.state.Frame.{Frame}
 use Rattle.cil_semantics.specs.State.{with_local, with_stack, Next, raised, lowered}
 use Rattle.cil_semantics.specs.Contracted.{Piece, Plan, runs_at}
@@ -32,8 +32,8 @@ module _ (p : Program) (k : Contracts) (plan : Plan) (f : Frame) (fs : List Fram
       if_true (runs_at plan g w.depth) (begin_piece p g (next_piece p plan g 0 h fs w) h fs (raised w) over) over r
       ∙ ap (λ o. begin_piece p g o h fs (raised w) over) e
 
-  passed : (g : Group) (h : Frame) (w : World) (over : Next) → runs_at plan g w.depth ≡ false → begin_group p plan g h fs w over ≡ over
-  passed g h w over r = if_false (runs_at plan g w.depth) (begin_piece p g (next_piece p plan g 0 h fs w) h fs (raised w) over) over r
+  stored_args : (g : Group) (h : Frame) (w : World) (over : Next) → runs_at plan g w.depth ≡ false → begin_group p plan g h fs w over ≡ over
+  stored_args g h w over r = if_false (runs_at plan g w.depth) (begin_piece p g (next_piece p plan g 0 h fs w) h fs (raised w) over) over r
 
   -- without a piece that takes part a group is passed over, whatever the depth
   none : (g : Group) (h : Frame) (w : World) (over : Next) → next_piece p plan g 0 h fs w ≡ None → begin_group p plan g h fs w over ≡ over
@@ -54,7 +54,7 @@ module _ (p : Program) (k : Contracts) (plan : Plan) (f : Frame) (fs : List Fram
   first_part =
       record {
         begins = refl;
-        goes_on = λ q l hs w n. if_false (q == plan.effective.lead_end) (begin_entry p plan (with_local l f) fs w) (goes_at p f (Lead q) l hs fs w) (ne_eqb q plan.effective.lead_end n);
+        goes_on = λ q l hs w n. if_false (q == plan.effective.lead_end) (begin_entry p plan (with_local l f) fs w) (goes_at p f (LeadIn q) l hs fs w) (ne_eqb q plan.effective.lead_end n);
         returns = λ q w. refl;
         throws = λ q x w below. refl;
       }
@@ -63,28 +63,28 @@ module _ (p : Program) (k : Contracts) (plan : Plan) (f : Frame) (fs : List Fram
   entry_part =
       record {
         order = refl;
-        begins = λ x l hs w r e. if_true (plan.effective.lead_end == plan.effective.lead_end) (begin_entry p plan (with_local (with_stack l []) f) fs w) (goes_at p f (Lead plan.effective.lead_end) (with_stack l []) hs fs w) (eq-eqb _ _ refl) ∙ ap (λ b. if b then begin_first p plan (next_piece p plan group.Entry 0 f fs w) (with_local (with_stack l []) f) fs w else go_to_rest p plan (with_local (with_stack l []) f) fs w) r ∙ ap (λ o. begin_first p plan o (with_local (with_stack l []) f) fs w) e;
-        passed_over = λ l hs w r. if_true (plan.effective.lead_end == plan.effective.lead_end) (begin_entry p plan (with_local (with_stack l []) f) fs w) (goes_at p f (Lead plan.effective.lead_end) (with_stack l []) hs fs w) (eq-eqb _ _ refl) ∙ ap (λ b. if b then begin_first p plan (next_piece p plan group.Entry 0 f fs w) (with_local (with_stack l []) f) fs w else go_to_rest p plan (with_local (with_stack l []) f) fs w) r;
+        begins = λ x l hs w r e. if_true (plan.effective.lead_end == plan.effective.lead_end) (begin_entry p plan (with_local (with_stack l []) f) fs w) (goes_at p f (LeadIn plan.effective.lead_end) (with_stack l []) hs fs w) (eq-eqb _ _ refl) ∙ ap (λ b. if b then begin_first p plan (next_piece p plan group.Entry 0 f fs w) (with_local (with_stack l []) f) fs w else go_to_rest p plan (with_local (with_stack l []) f) fs w) r ∙ ap (λ o. begin_first p plan o (with_local (with_stack l []) f) fs w) e;
+        passed_over = λ l hs w r. if_true (plan.effective.lead_end == plan.effective.lead_end) (begin_entry p plan (with_local (with_stack l []) f) fs w) (goes_at p f (LeadIn plan.effective.lead_end) (with_stack l []) hs fs w) (eq-eqb _ _ refl) ∙ ap (λ b. if b then begin_first p plan (next_piece p plan group.Entry 0 f fs w) (with_local (with_stack l []) f) fs w else go_to_rest p plan (with_local (with_stack l []) f) fs w) r;
         goes_on = λ i x w e. next group.Entry i x w e;
         ends = λ i w e. last group.Entry i w e;
-        drops_exceptions = λ i q x w below d. if_true (drops (piece_at (Some plan) group.Entry i)) (after_entry_piece p plan i f fs w) (ends_frame p f.initializes f.back (lowered w) x below) d;
+        drops_exceptions = λ i q x w below d. if_true (drops (piece_at (Some plan) group.Entry i)) (after_entry_piece p plan i f fs w) (ends_frame p f.initializes f.continuation (lowered w) x below) d;
       }
 
   groups_throw : GroupsThrow p plan f fs
   groups_throw g i q x w below d =
-      if_false (drops (piece_at (Some plan) g i)) (after_entry_piece p plan i f fs w) (ends_frame p f.initializes f.back (lowered w) x below) d
+      if_false (drops (piece_at (Some plan) g i)) (after_entry_piece p plan i f fs w) (ends_frame p f.initializes f.continuation (lowered w) x below) d
 
   return_part : ReturnPart p k plan f fs
   return_part =
       record {
         order = refl;
         begins = λ q x w r e. begun group.Exit f x w (begin_invariants p k plan f fs w) r e;
-        passed_over = λ q w r. passed group.Exit f w (begin_invariants p k plan f fs w) r;
+        passed_over = λ q w r. stored_args group.Exit f w (begin_invariants p k plan f fs w) r;
         goes_on = λ i x w e. next group.Exit i x w e;
         ends = λ i w e. last group.Exit i w e;
         invariants = refl;
         begins_invariants = λ x w z e. begun group.Invariant f x w (return_to p k f fs w) (eq-eqb _ _ z) e;
-        passes_over_invariants = λ w n. passed group.Invariant f w (return_to p k f fs w) (ne_eqb w.depth 0 n);
+        passes_over_invariants = λ w n. stored_args group.Invariant f w (return_to p k f fs w) (ne_eqb w.depth 0 n);
         ends_invariants = λ i w e. last group.Invariant i w e;
       }
 
@@ -92,10 +92,10 @@ module _ (p : Program) (k : Contracts) (plan : Plan) (f : Frame) (fs : List Fram
   throw_part =
       record {
         order = refl;
-        begins = λ q x y w below r e. begun group.Throw (record f { thrown = Some x }) y w (ends_frame p f.initializes f.back w x below) r e;
-        passed_over = λ q x w below r. passed group.Throw (record f { thrown = Some x }) w (ends_frame p f.initializes f.back w x below) r;
-        none_fits = λ q x w below e. none group.Throw (record f { thrown = Some x }) w (ends_frame p f.initializes f.back w x below) e;
-        ends = λ i x w t e. last group.Throw i w e ∙ ap (λ o. maybe (stuck (lowered w)) (λ y. ends_frame p f.initializes f.back (lowered w) y (λ skip v z. unwind p k skip fs v z)) o) t;
+        begins = λ q x y w below r e. begun group.Throw (record f { thrown = Some x }) y w (ends_frame p f.initializes f.continuation w x below) r e;
+        passed_over = λ q x w below r. stored_args group.Throw (record f { thrown = Some x }) w (ends_frame p f.initializes f.continuation w x below) r;
+        none_fits = λ q x w below e. none group.Throw (record f { thrown = Some x }) w (ends_frame p f.initializes f.continuation w x below) e;
+        ends = λ i x w t e. last group.Throw i w e ∙ ap (λ o. maybe (stuck (lowered w)) (λ y. ends_frame p f.initializes f.continuation (lowered w) y (λ skip v z. unwind p k skip fs v z)) o) t;
       }
 
   pub goes_by_parts : GoesByParts p k plan f fs

@@ -6,10 +6,10 @@ use Rattle.cil_model.specs.declared.program.Program.{Program}
 use Rattle.cil_model.specs.declared.run.Outcome.{Outcome}
 use Rattle.cil_model.specs.declared.run.Reply.{Reply}
 use Rattle.cil_model.specs.NoContracts.{no_contracts}
-use Rattle.cil_semantics.specs.Checks.{Numbers}
+use Rattle.cil_semantics.specs.Checks.{AddedNumbers}
 use Rattle.cil_semantics.specs.declared.state.World.{World}
-use Rattle.cil_semantics.specs.State.{State, Next, Goes, Ends}
-use Rattle.cil_semantics.specs.Machine.{step, start, runs, run, plain_run, and_then, numbers_past}
+use Rattle.cil_semantics.specs.State.{State, Next, Running, Ended}
+use Rattle.cil_semantics.specs.Machine.{step, start, runs, run, plain_run, and_then, unused_numbers}
 use Rattle.machine_laws.specs.Simulation.{IsPrefix, trace_of, weight, Match, Simulates, EndsAlike, Lifted}
 use Rattle.machine_laws.specs.Same.{Same, SameWorld, IsEntry, Meets, BeginsAlike, AnswersSteps, bound_of, plain_step}
 use Rattle.machine_laws.proofs.LiftLaws.{lifts, prefix_refl, end_outcome, end_world}
@@ -17,27 +17,27 @@ use Rattle.machine_laws.proofs.GrowthLaws.{step_grows}
 
 -- the two directions and the two laws on prefixes, for two runs as functions of their steps
 record SameRuns (E : World → World → Type 0) (c : ℕ) (a b : ℕ → Next) : Type 0 where
-  ends_only : (n : ℕ) (o : Outcome) (w' : World) → b n ≡ Ends o w' → EndsAlike (λ w. E w w') (a n) o
-  ends_too : (n : ℕ) (o : Outcome) (w : World) → a n ≡ Ends o w → EndsAlike (E w) (b (c * (n + 1))) o
+  ends_only : (n : ℕ) (o : Outcome) (w' : World) → b n ≡ Ended o w' → EndsAlike (λ w. E w w') (a n) o
+  ends_too : (n : ℕ) (o : Outcome) (w : World) → a n ≡ Ended o w → EndsAlike (E w) (b (c * (n + 1))) o
   writes_no_more : (n : ℕ) → IsPrefix (trace_of (b n)) (trace_of (a n))
   writes_no_less : (n : ℕ) → IsPrefix (trace_of (a n)) (trace_of (b (c * (n + 1))))
 
-module _ (p : Program) (k : Contracts) (p' : Program) (g : Numbers) (R : State → State → Type 0) (f : State → ℕ) (h : AnswersSteps p k p' g R f) where
+module _ (p : Program) (k : Contracts) (p' : Program) (g : AddedNumbers) (R : State → State → Type 0) (f : State → ℕ) (h : AnswersSteps p k p' g R f) where
   simulates : Simulates (step p k g) (plain_step p') (SameWorld (length p.types)) R f (bound_of k p)
   simulates =
       record {
         same_trace = h.same_trace;
-        same_told = λ w w' e. e.trace;
+        same_recorded = λ w w' e. e.trace;
         answer = h.answer;
-        grows = step_grows p' no_contracts (numbers_past p');
+        grows = step_grows p' no_contracts (unused_numbers p');
       }
 
   -- runs that are over at once
-  over : (o o1 : Outcome) (w w1 : World) → o ≡ o1 → SameWorld (length p.types) w w1 → SameRuns (SameWorld (length p.types)) (bound_of k p) (λ n. Ends o w) (λ n. Ends o1 w1)
+  over : (o o1 : Outcome) (w w1 : World) → o ≡ o1 → SameWorld (length p.types) w w1 → SameRuns (SameWorld (length p.types)) (bound_of k p) (λ n. Ended o w) (λ n. Ended o1 w1)
   over o o1 w w1 e s =
       record {
-        ends_only = λ n o2 w2 q. (w, ap (λ z. Ends z w) (e ∙ ap end_outcome q), subst (SameWorld (length p.types) w) (ap end_world q) s);
-        ends_too = λ n o2 w2 q. (w1, ap (λ z. Ends z w1) (sym e ∙ ap end_outcome q), subst (λ z. SameWorld (length p.types) z w1) (ap end_world q) s);
+        ends_only = λ n o2 w2 q. (w, ap (λ z. Ended z w) (e ∙ ap end_outcome q), subst (SameWorld (length p.types) w) (ap end_world q) s);
+        ends_too = λ n o2 w2 q. (w1, ap (λ z. Ended z w1) (sym e ∙ ap end_outcome q), subst (λ z. SameWorld (length p.types) z w1) (ap end_world q) s);
         writes_no_more = λ n. subst (λ z. IsPrefix w1.trace z) (sym s.trace) (prefix_refl w1.trace);
         writes_no_less = λ n. subst (λ z. IsPrefix w.trace z) s.trace (prefix_refl w.trace);
       }
@@ -51,10 +51,10 @@ module _ (p : Program) (k : Contracts) (p' : Program) (g : Numbers) (R : State �
       record { ends_only = l.ends_only; ends_too = l.ends_too; writes_no_more = l.writes_no_more; writes_no_less = l.writes_no_less }
 
   from_starts : (x y : Next) → BeginsAlike p k p' R f x y → SameRuns (SameWorld (length p.types)) (bound_of k p) (λ n. and_then x (runs (step p k g) n)) (λ n. and_then y (runs (plain_step p') n))
-  from_starts (Goes s) (Goes t) b = begun s t b
-  from_starts (Ends o w) (Ends o1 w1) b = over o o1 w w1 b.0 b.1
-  from_starts (Goes s) (Ends o1 w1) b = absurd b
-  from_starts (Ends o w) (Goes t) b = absurd b
+  from_starts (Running s) (Running t) b = begun s t b
+  from_starts (Ended o w) (Ended o1 w1) b = over o o1 w w1 b.0 b.1
+  from_starts (Running s) (Ended o1 w1) b = absurd b
+  from_starts (Ended o w) (Running t) b = absurd b
 
   of_entry : (m : ℕ) (args : List Value) (rs : List Reply) → IsEntry p m args → SameRuns (SameWorld (length p.types)) (bound_of k p) (run p k g m args rs) (plain_run p' m args rs)
   unfolding run
@@ -83,23 +83,23 @@ module _ (p : Program) where
   same_world w = record { heap = refl; statics = refl; trace = refl }
 
   begins : (x : Next) → BeginsAlike p no_contracts p IsItself (λ s. 0) x x
-  begins (Goes s) = record { met = s; steps = 0; meets = refl; related = refl; within = omega arith }
-  begins (Ends o w) = (refl, same_world w)
+  begins (Running s) = record { met = s; steps = 0; meets = refl; related = refl; within = omega arith }
+  begins (Ended o w) = (refl, same_world w)
 
   matches : (x : Next) → Match (SameWorld (length p.types)) IsItself x (and_then x (runs (plain_step p) 0))
-  matches (Goes s) = refl
-  matches (Ends o w) = (refl, same_world w)
+  matches (Running s) = refl
+  matches (Ended o w) = (refl, same_world w)
 
   no_weight : (x : Next) → weight (λ s. 0) x ≤ 0
-  no_weight (Goes s) = omega arith
-  no_weight (Ends o w) = omega arith
+  no_weight (Running s) = omega arith
+  no_weight (Ended o w) = omega arith
 
   one_step : (s s' : State) → s ≡ s' → (j : ℕ) × (suc j + weight (λ s. 0) (plain_step p s) ≤ bound_of no_contracts p + 0) × Match (SameWorld (length p.types)) IsItself (plain_step p s) (runs (plain_step p) (suc j) s')
   one_step s s' e =
       let small : weight (λ s. 0) (plain_step p s) ≤ 0 = no_weight (plain_step p s) in
       (0, omega (arith, small), subst (λ z. Match (SameWorld (length p.types)) IsItself (plain_step p s) (runs (plain_step p) 1 z)) e (matches (plain_step p s)))
 
-  itself : AnswersSteps p no_contracts p (numbers_past p) IsItself (λ s. 0)
+  itself : AnswersSteps p no_contracts p (unused_numbers p) IsItself (λ s. 0)
   itself =
       record {
         identities = record {
@@ -121,4 +121,4 @@ module _ (p : Program) where
       }
 
 pub behaves_as_itself : (p : Program) → Same p no_contracts p
-behaves_as_itself p = same p no_contracts p (numbers_past p) IsItself (λ s. 0) (itself p)
+behaves_as_itself p = same p no_contracts p (unused_numbers p) IsItself (λ s. 0) (itself p)

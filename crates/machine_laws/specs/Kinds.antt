@@ -4,7 +4,7 @@ use Rattle.cil_model.specs.declared.ty.Ty.{Ty, Prim, Known, Outside, Array', ByR
 use Rattle.cil_model.specs.declared.program.Program.{Program}
 use Rattle.cil_semantics.specs.Core.{Name}
 use Rattle.cil_semantics.specs.Types.{same_ty}
-use Rattle.cil_semantics.specs.Places.{holds}
+use Rattle.cil_semantics.specs.Places.{storage}
 
 -- each outside type within a type is of its name's kind
 module _ (is_value : Name → Bool) where
@@ -26,4 +26,4 @@ module _ (is_value : Name → Bool) where
 
 -- Then the places of one type hold one kind of value, however the type is written.
 abbrev pub OneKind : Program → (Name → Bool) → Type 0
-OneKind p is_value = (t u : Ty) → Agrees is_value t → Agrees is_value u → same_ty t u ≡ true → holds p t ≡ holds p u
+OneKind p is_value = (t u : Ty) → Agrees is_value t → Agrees is_value u → same_ty t u ≡ true → storage p t ≡ storage p u

@@ -16,12 +16,12 @@ use Rattle.cil_semantics.specs.Core.{Name, string_ty, helper_name, kind_ty, exce
 use Rattle.cil_semantics.specs.Lookups.{type_of, field_of, method_of, in_set}
 use Rattle.cil_semantics.specs.declared.state.World.{World}
 use Rattle.cil_semantics.specs.declared.state.Statics.{Statics}
-use Rattle.cil_semantics.specs.State.{State, Next, Goes, Ends}
+use Rattle.cil_semantics.specs.State.{State, Next, Running, Ended}
 use Rattle.cil_semantics.specs.Contracted.{effective_of}
 use Rattle.cil_semantics.specs.Frames.{param_types, owner_type}
 use Rattle.cil_semantics.specs.Outside.{all_fit, fits}
-use Rattle.cil_semantics.specs.Checks.{Numbers}
-use Rattle.cil_semantics.specs.Machine.{start, step, runs, run, plain_run, empty_world, numbers_past}
+use Rattle.cil_semantics.specs.Checks.{AddedNumbers}
+use Rattle.cil_semantics.specs.Machine.{start, step, runs, run, plain_run, empty_world, unused_numbers}
 use Rattle.machine_laws.specs.Simulation.{IsPrefix, trace_of, EndsAlike, Match, weight}
 
 -- ---- identity (ECMA-335, II.6.2): a row of an assembly, or outside the set a name
@@ -81,7 +81,7 @@ pub record IsFailureClass (p : Program) (t target : ℕ) : Type 0 where
   pub base : (type_of p t).base ≡ Some exception_ty
 
 -- What the numbers of a run with contracts name in the second program, where it has them.
-pub record NamesAdded (p p' : Program) (target : ℕ) (g : Numbers) : Type 0 where
+pub record NamesAdded (p p' : Program) (target : ℕ) (g : AddedNumbers) : Type 0 where
   pub unused : length p.types ≤ g.exception
   pub exception : g.exception < length p'.types → IsFailureClass p' g.exception target
   pub constructor : (name : Name) → g.constructor name < length p'.methods → IsConstructor p' (g.constructor name) name
@@ -132,36 +132,36 @@ bound_of k p = 64 * (1 + most_clauses k p 0 p.methods)
 
 -- For every entry, replies and number of steps the runs end together and tell the same.
 pub record Same (p : Program) (k : Contracts) (p' : Program) : Type 0 where
-  pub numbers : Numbers
+  pub numbers : AddedNumbers
   pub identities : KeepsIdentities p p'
   pub added : NamesAdded p p' k.target numbers
-  pub ends_only : (m : ℕ) (args : List Value) (rs : List Reply) (n : ℕ) (o : Outcome) (w' : World) → IsEntry p m args → plain_run p' m args rs n ≡ Ends o w' → EndsAlike (λ w. SameWorld (length p.types) w w') (run p k numbers m args rs n) o
-  pub ends_too : (m : ℕ) (args : List Value) (rs : List Reply) (n : ℕ) (o : Outcome) (w : World) → IsEntry p m args → run p k numbers m args rs n ≡ Ends o w → EndsAlike (SameWorld (length p.types) w) (plain_run p' m args rs (bound_of k p * (n + 1))) o
+  pub ends_only : (m : ℕ) (args : List Value) (rs : List Reply) (n : ℕ) (o : Outcome) (w' : World) → IsEntry p m args → plain_run p' m args rs n ≡ Ended o w' → EndsAlike (λ w. SameWorld (length p.types) w w') (run p k numbers m args rs n) o
+  pub ends_too : (m : ℕ) (args : List Value) (rs : List Reply) (n : ℕ) (o : Outcome) (w : World) → IsEntry p m args → run p k numbers m args rs n ≡ Ended o w → EndsAlike (SameWorld (length p.types) w) (plain_run p' m args rs (bound_of k p * (n + 1))) o
   pub writes_no_more : (m : ℕ) (args : List Value) (rs : List Reply) (n : ℕ) → IsEntry p m args → IsPrefix (trace_of (plain_run p' m args rs n)) (trace_of (run p k numbers m args rs n))
   pub writes_no_less : (m : ℕ) (args : List Value) (rs : List Reply) (n : ℕ) → IsEntry p m args → IsPrefix (trace_of (run p k numbers m args rs n)) (trace_of (plain_run p' m args rs (bound_of k p * (n + 1))))
 
 -- ---- same behaviour from steps
 
 abbrev pub plain_step : Program → State → Next
-plain_step p s = step p no_contracts (numbers_past p) s
+plain_step p s = step p no_contracts (unused_numbers p) s
 
 -- the plain run comes from a state to one that goes with the first in few steps
 pub record Meets (p : Program) (k : Contracts) (p' : Program) (R : State → State → Type 0) (f : State → ℕ) (first second : State) : Type 0 where
   pub met : State
   pub steps : ℕ
-  pub meets : runs (plain_step p') steps second ≡ Goes met
+  pub meets : runs (plain_step p') steps second ≡ Running met
   pub related : R first met
   pub within : steps + f first ≤ bound_of k p
 
 -- both runs begin, or both are over at once in the same way
 abbrev pub BeginsAlike : (p : Program) (k : Contracts) (p' : Program) (R : State → State → Type 0) (f : State → ℕ) → Next → Next → Type 0
-BeginsAlike p k p' R f (Goes s) (Goes s') = Meets p k p' R f s s'
-BeginsAlike p k p' R f (Ends o w) (Ends o' w') = (o ≡ o') × SameWorld (length p.types) w w'
-BeginsAlike p k p' R f (Goes s) (Ends o' w') = ⊥
-BeginsAlike p k p' R f (Ends o w) (Goes s') = ⊥
+BeginsAlike p k p' R f (Running s) (Running s') = Meets p k p' R f s s'
+BeginsAlike p k p' R f (Ended o w) (Ended o' w') = (o ≡ o') × SameWorld (length p.types) w w'
+BeginsAlike p k p' R f (Running s) (Ended o' w') = ⊥
+BeginsAlike p k p' R f (Ended o w) (Running s') = ⊥
 
 -- From each entry on the plain run of the second program answers each step of the first program's run with contracts; long answers are paid by what a state has laid by.
-pub record AnswersSteps (p : Program) (k : Contracts) (p' : Program) (g : Numbers) (R : State → State → Type 0) (f : State → ℕ) : Type 0 where
+pub record AnswersSteps (p : Program) (k : Contracts) (p' : Program) (g : AddedNumbers) (R : State → State → Type 0) (f : State → ℕ) : Type 0 where
   pub identities : KeepsIdentities p p'
   pub added : NamesAdded p p' k.target g
   pub entry : (m : ℕ) (args : List Value) (rs : List Reply) → IsEntry p m args → BeginsAlike p k p' R f (start p k m args rs) (start p' no_contracts m args rs)

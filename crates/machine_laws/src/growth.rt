@@ -8,7 +8,7 @@ ghost use Rattle.cil_model.specs.declared.ty.Ty.{Ty};
 ghost use Rattle.cil_model.specs.declared.value.Value.{Value};
 ghost use Rattle.cil_semantics.specs.declared.state.Frame.{Frame};
 ghost use Rattle.cil_semantics.specs.declared.state.World.{World};
-ghost use Rattle.cil_semantics.specs.Checks.{Numbers, Failure, Sequel, fail_with};
+ghost use Rattle.cil_semantics.specs.Checks.{AddedNumbers, Failure, Sequel, fail_with};
 ghost use Rattle.cil_semantics.specs.Core.{Name};
 ghost use Rattle.cil_semantics.specs.Lookups.{method_of};
 ghost use Rattle.cil_semantics.specs.Tokens.{nests_little};
@@ -44,5 +44,5 @@ pub fn added_names()
 /// A failed Requires<E> whose E nests over 1,000 deep makes nothing.
 #[tactic(auto, using(crate::proofs::FailureLaws::deep_exception_stops))]
 pub fn deep_exceptions()
-    ensures { (p : Program) (g : Numbers) (throwing : Bool) (x : Failure) (s : Sequel) (t : Ty) (text : Value) (fs : List Frame) (w : World) → x.exception ≡ Some t → nests_little t ≡ false → fail_with p g throwing x s RequiresOf text fs w ≡ s.stops w }
+    ensures { (p : Program) (g : AddedNumbers) (throwing : Bool) (x : Failure) (s : Sequel) (t : Ty) (text : Value) (fs : List Frame) (w : World) → x.exception ≡ Some t → nests_little t ≡ false → fail_with p g throwing x s RequiresOf text fs w ≡ s.stops w }
 {}

@@ -24,7 +24,7 @@ use Rattle.cil_model.specs.declared.run.Outcome.TheVariants as outcome
 use Rattle.cil_model.specs.declared.run.ReplyResult.TheVariants as reply
 use Rattle.cil_semantics.specs.declared.contract_call.ContractCall.TheVariants.{NoContractCall}
 use Rattle.cil_semantics.specs.ContractCalls.{contract_call}
-use Rattle.cil_semantics.specs.Core.{Name, class, object_ty, string_ty, contract_name, helper_name, outside_base}
+use Rattle.cil_semantics.specs.Core.{Name, class_named, object_ty, string_ty, contract_name, helper_name, outside_base}
 use Rattle.cil_semantics.specs.Dispatch.{body_for}
 use Rattle.cil_semantics.specs.Lookups.{is_sub}
 use Rattle.machine_rows.specs.Samples.{instr, bare, ldarg, ldloc, int, jump, call, ret, body, int_ty, bool_ty, void_ty, method, outside, class_with, outside_class, clause, no_effective, contracts, replies, null_reply, failed, sample, member_row, requires, ensures_call, assert, log_ty, call_own, type_token, type_ref, method_token, checked, i4, returns, contract_exception_name, contract_ty}
@@ -73,7 +73,7 @@ EveryTypeIsAnObject = (is_sub baseless (Known 2) object_ty ≡ true) × (is_sub 
 
 -- a name that ends so is an exception's, whatever a signature says
 abbrev pub NamedExceptionIsOne : Type 0
-NamedExceptionIsOne = outside_base (codes "Ext.OddException") true ≡ class (codes "System.Exception")
+NamedExceptionIsOne = outside_base (codes "Ext.OddException") true ≡ class_named (codes "System.Exception")
 
 -- ---- an interface's method by a base's method, which a class below overrides: I; B<X>; D : B<int>, I; E : D
 
@@ -105,10 +105,10 @@ abbrev pub number_field : Ty → FieldDesc
 number_field t = record { owner = 2; name = codes "n"; ty = t; is_static = false; flags = 6 }
 
 abbrev pub struct_type : List ℕ → TypeDesc
-struct_type methods = record (class_with (codes "S") methods) { kind = Struct; base = Some (class (codes "System.ValueType")); fields = 0 ∷ [] }
+struct_type methods = record (class_with (codes "S") methods) { kind = Struct; base = Some (class_named (codes "System.ValueType")); fields = 0 ∷ [] }
 
 abbrev pub delegate_ty : Ty
-delegate_ty = class (codes "Ext.D")
+delegate_ty = class_named (codes "Ext.D")
 
 -- the struct's own method, a delegate's constructor, and its Invoke with a result and without
 abbrev pub delegate_methods : List MethodDesc
@@ -271,7 +271,7 @@ other_event =
     let q = sample (method 0 (codes "Go") [] string_ty (body (bare 0x14 ∷ bare 0x14 ∷ instr 0x72 (Tok 0 (record { table = 0x70; row = 1 })) ∷ call 20 ∷ ret ∷ []) [] None) ∷ []) in
     record q {
       methods = q.methods ++ outside 1 true (codes "RaiseContractFailedEvent") (string_ty ∷ string_ty ∷ string_ty ∷ []) string_ty ∷ [];
-      tokens = row (record { table = 0x70; row = 1 }) (OfText (97 ∷ [])) ∷ member_row 20 (class helper_name) 17 [] ∷ q.tokens;
+      tokens = row (record { table = 0x70; row = 1 }) (OfText (97 ∷ [])) ∷ member_row 20 (class_named helper_name) 17 [] ∷ q.tokens;
     }
 
 abbrev pub EventOfOtherParameters : Type 0

@@ -22,7 +22,7 @@ use Rattle.cil_model.specs.declared.program.Meaning.TheVariants.{OfType, OfField
 use Rattle.cil_model.specs.declared.program.TokenRow.{TokenRow}
 use Rattle.cil_model.specs.declared.run.Outcome.TheVariants as outcome
 use Rattle.cil_model.specs.declared.run.ReplyResult.TheVariants as reply
-use Rattle.cil_semantics.specs.Core.{class, string_ty, contract_name, helper_name}
+use Rattle.cil_semantics.specs.Core.{class_named, string_ty, contract_name, helper_name}
 use Rattle.machine_rows.specs.Samples.{instr, bare, ldarg, starg, int, jump, call, ret, body, int_ty, void_ty, method, class_with, outside_class, clause, no_effective, contracts, replies, null_reply, failed, sample, requires, ensures_call, on_throw, invariant, log_get, log_find, new_operation_exception, call_own, type_token, type_ref, method_token, checked, i4, returns, contract_exception_name, contract_ty}
 use Rattle.machine_rows.specs.Rows.{with_contract, find, inc, inc_contract, inc_label, got}
 
@@ -212,7 +212,7 @@ own_exception =
     ∷ record (instance (method 2 (codes ".ctor") (string_ty ∷ []) void_ty (body (ldarg 0 ∷ call 14 ∷ ret ∷ []) [] None))) { sig = 1 } ∷ [])
     in
     record q {
-      types = q.types ++ record (class_with (codes "T/E") (1 ∷ [])) { base = Some (class (codes "System.Exception")) } ∷ [];
+      types = q.types ++ record (class_with (codes "T/E") (1 ∷ [])) { base = Some (class_named (codes "System.Exception")) } ∷ [];
       tokens = record { assembly = 0; token = type_token 9; meaning = OfType (Known 2) } ∷ q.tokens;
     }
 

@@ -14,7 +14,7 @@ use Rattle.cil_model.specs.declared.run.Outcome.{Outcome}
 use Rattle.cil_model.specs.declared.run.Reply.{Reply}
 use Rattle.cil_model.specs.declared.run.ReplyResult.TheVariants as reply
 use Rattle.cil_model.specs.declared.run.TraceItem.{TraceItem}
-use Rattle.cil_semantics.specs.Core.{Name, class}
+use Rattle.cil_semantics.specs.Core.{Name, class_named}
 use Rattle.cil_semantics.specs.Machine.{plain_run}
 use Rattle.machine_rows.specs.Samples.{instr, bare, ldarg, ldloc, stloc, int, jump, call, ret, body, int_ty, bool_ty, void_ty, method, class_with, clause, no_effective, requires, sample, null_reply, replies, log_get, log_check, report, checked, i4, returns, failed, shown, contract_exception_name}
 use Rattle.machine_rows.specs.Rows.{with_contract, inc, inc_contract, inc_label, ca, ca_contract, assertion, assertion_contract}
@@ -33,7 +33,7 @@ locals_token = record { table = 0x11; row = 1 }
 abbrev pub with_runtime : Name → Program → Program
 with_runtime label p =
     record {
-      types = p.types ++ record (class_with contract_exception_name (length p.methods ∷ [])) { base = Some (class (codes "System.Exception")) } ∷ [];
+      types = p.types ++ record (class_with contract_exception_name (length p.methods ∷ [])) { base = Some (class_named (codes "System.Exception")) } ∷ [];
       fields = p.fields;
       methods = p.methods ++ record (method (length p.types) (codes ".ctor") [] void_ty (body (ldarg 0 ∷ call 14 ∷ ret ∷ []) [] None)) { is_static = false; flags = 0x1806 } ∷ [];
       tokens =
@@ -52,7 +52,7 @@ fails kind on =
 
 -- A condition is stored as a bool before it is tested, as a call takes it.
 abbrev pub tests : ℕ → List Instr
-tests holds = stloc 2 ∷ ldloc 2 ∷ jump 0x3A holds ∷ []
+tests on = stloc 2 ∷ ldloc 2 ∷ jump 0x3A on ∷ []
 
 abbrev pub plainly : Program → List Value → List Reply → ℕ → Option (Outcome × List TraceItem)
 plainly p args rs n = shown (plain_run p 0 args rs n)
@@ -97,8 +97,8 @@ SplicedAssertFails = plainly assertion_spliced (i4 0 ∷ []) [] 60 ≡ checked a
 abbrev pub cut_label : Name
 cut_label = codes "T::Cu/requires/0"
 
-abbrev pub cut : Program
-cut = sample (method 0 (codes "Cu") (int_ty ∷ []) int_ty (body (ldarg 0 ∷ requires ∷ ldarg 0 ∷ ret ∷ []) [] None) ∷ [])
+abbrev pub truncated : Program
+truncated = sample (method 0 (codes "Cu") (int_ty ∷ []) int_ty (body (ldarg 0 ∷ requires ∷ ldarg 0 ∷ ret ∷ []) [] None) ∷ [])
 
 abbrev pub cut_contract : Effective
 cut_contract = record no_effective { rest_from = 2; clauses = clause kind.Requires cut_label (ldarg 0 ∷ requires ∷ []) ∷ [] }
@@ -109,5 +109,5 @@ cut_spliced = spliced (method 0 (codes "Cu") (int_ty ∷ []) int_ty (body (ldarg
 -- 256 is false in both runs
 abbrev pub SplicedConditionIsCut : Type 0
 SplicedConditionIsCut =
-    (checked cut (with_contract cut_contract) 0 (i4 256 ∷ []) (null_reply ∷ []) 40 ≡ Some (returns 256, failed 0 cut_label (reply.Given Null) ∷ []))
-    × (plainly cut_spliced (i4 256 ∷ []) (null_reply ∷ []) 60 ≡ checked cut (with_contract cut_contract) 0 (i4 256 ∷ []) (null_reply ∷ []) 40)
+    (checked truncated (with_contract cut_contract) 0 (i4 256 ∷ []) (null_reply ∷ []) 40 ≡ Some (returns 256, failed 0 cut_label (reply.Given Null) ∷ []))
+    × (plainly cut_spliced (i4 256 ∷ []) (null_reply ∷ []) 60 ≡ checked truncated (with_contract cut_contract) 0 (i4 256 ∷ []) (null_reply ∷ []) 40)

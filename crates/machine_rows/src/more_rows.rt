@@ -6,8 +6,8 @@ ghost use Rattle.machine_rows.specs.MoreRows.{OutsideReplyDoesntFit, ArgumentsTh
 /// parameters aren't.
 #[tactic(auto, using(crate::proofs::MoreRowLaws::outside_reply_doesnt_fit, crate::proofs::MoreRowLaws::arguments_that_dont_fit))]
 pub fn reply_that_doesnt_fit()
-    ensures told { OutsideReplyDoesntFit }
-    ensures untold { ArgumentsThatDontFit }
+    ensures recorded { OutsideReplyDoesntFit }
+    ensures unrecorded { ArgumentsThatDontFit }
 {}
 
 /// Where failures don't throw, a second call outside tells of them.
