@@ -1,12 +1,13 @@
 -- Where no type is above itself, looking further finds no more bases and no more types above.
 use Rattle.std.proofs.Common.{◌≡◌, ℕ, zero, suc, ◌+◌, ◌<◌, ◌≤◌, Bool, true, false, ◌⊎◌, inl, inr, List, [], ◌∷◌, ◌++◌, length, get_or, Option, Some, None, refl, sym, ap, ◌∙◌, arith}
-use Rattle.std.specs.Prelude.{option_to_list, ◌||◌, Contains}
+use Rattle.std.specs.Prelude.{option_to_list, option_and_then, unwrap_or, find, if◌then◌else◌, ◌||◌, Contains}
 use Rattle.std.proofs.lemmas.List.Elements.{Contains-append_cases}
 use Rattle.cil_model.specs.declared.ty.Ty.{Ty}
 use Rattle.cil_model.specs.declared.program.Program.{Program}
-use Rattle.cil_semantics.specs.Words.{any}
+use Rattle.cil_semantics.specs.Words.{any, or_else, first_some}
 use Rattle.cil_semantics.specs.Types.{same_ty}
 use Rattle.cil_semantics.specs.Lookups.{base_of, interfaces_of, most_bases, chain, chain_within, chain_on, is_sub, is_sub_within}
+use Rattle.cil_semantics.specs.Dispatch.{Seen, implementing, public_like, bases, interface_slot}
 use Rattle.machine_laws.specs.Growth.{Ranked, LooksFarEnough}
 
 no_element : {X : Type 0} (x : X) → Contains [] x → ⊥
@@ -24,6 +25,24 @@ first_element x xs = (0, omega arith, refl)
 
 later_element : {X : Type 0} (y x : X) (xs : List X) → Contains xs x → Contains (y ∷ xs) x
 later_element y x xs c = (suc c.0, omega (arith, c.1), c.2)
+
+contains_cases : {X : Type 0} (y x : X) (xs : List X) → Contains (y ∷ xs) x → (y ≡ x) ⊎ Contains xs x
+contains_cases {X} y x xs c = by_index c.0 c.1 c.2
+  where
+    by_index : (k : ℕ) → k < suc (length xs) → get_or (y ∷ xs) k x ≡ x → (y ≡ x) ⊎ Contains xs x
+    by_index zero l e = inl e
+    by_index (suc k) l e = inr (k, omega arith, e)
+
+some_injective : (x u : Ty) → Some x ≡ Some u → x ≡ u
+some_injective x u e = ap (λ o. unwrap_or o x) e
+
+find_contains : (f : Ty → Bool) (xs : List Ty) (u : Ty) → find f xs ≡ Some u → Contains xs u
+find_contains f [] u e = absurd cc
+find_contains f (x ∷ xs) u e = by_test (f x) e (λ d. find_contains f xs u d)
+  where
+    by_test : (b : Bool) → (if b then Some x else find f xs) ≡ Some u → (find f xs ≡ Some u → Contains xs u) → Contains (x ∷ xs) u
+    by_test true d ih = (0, omega arith, some_injective x u d)
+    by_test false d ih = later_element x u xs (ih d)
 
 any_settles : (f g : Ty → Bool) (us : List Ty) → ((u : Ty) → Contains us u → f u ≡ g u) → any f us ≡ any g us
 any_settles f g [] e = refl
@@ -96,10 +115,45 @@ module _ (p : Program) (r : Ranked p) where
       (any_settles (λ c. is_sub_within n p c b) (λ c. is_sub_within m p c b) (parents a)
       (λ u c. let lt : r.rank u < r.rank a = low a u c in let ln : r.rank u ≤ n = omega arith in let lk : r.rank u ≤ m = omega arith in sub_settles n m u b ln lk))
 
+  -- the types of a chain are at most as high as its first
+  chain_low : (n : ℕ) (t u : Ty) → Contains (chain_within n p t) u → r.rank u ≤ r.rank t
+  unfolding chain_within
+  chain_low zero t u c = let e : r.rank t ≡ r.rank u = ap r.rank (only_element t u c) in omega arith
+  chain_low (suc n) t u c = by_part (λ v. chain_low n v u) (contains_cases t u (chain_on (chain_within n p) (base_of p t)) c)
+    where
+      by_base : (o : Option Ty) → base_of p t ≡ o → ((v : Ty) → Contains (chain_within n p v) u → r.rank u ≤ r.rank v) → Contains (chain_on (chain_within n p) o) u → r.rank u ≤ r.rank t
+      by_base None e ih d = absurd (no_element u d)
+      by_base (Some v) e ih d = let lt : r.rank v < r.rank t = r.base t v e in let le : r.rank u ≤ r.rank v = ih v d in omega arith
+
+      by_part : ((v : Ty) → Contains (chain_within n p v) u → r.rank u ≤ r.rank v) → (t ≡ u) ⊎ Contains (chain_on (chain_within n p) (base_of p t)) u → r.rank u ≤ r.rank t
+      by_part ih (inl e) = let f : r.rank t ≡ r.rank u = ap r.rank e in omega arith
+      by_part ih (inr d) = by_base (base_of p t) refl ih d
+
+  -- two limits above the rank find the same slot
+  pub slot_settles : (n m : ℕ) (s : Seen) (t : Ty) → r.rank t < n → r.rank t < m → interface_slot n p s t ≡ interface_slot m p s t
+  unfolding interface_slot
+  slot_settles zero m s t l k = absurd (omega arith)
+  slot_settles (suc n) zero s t l k = absurd (omega arith)
+  slot_settles (suc n) (suc m) s t l k = by_type (find (λ u. any (same_ty s.0) (interfaces_of p u)) (chain p t)) refl (λ v a b. slot_settles n m s v a b)
+    where
+      by_base : (u : Ty) (o : Option Ty) → base_of p u ≡ o → r.rank u ≤ r.rank t → ((v : Ty) → r.rank v < n → r.rank v < m → interface_slot n p s v ≡ interface_slot m p s v)
+          → option_and_then (interface_slot n p s) o ≡ option_and_then (interface_slot m p s) o
+      by_base u None e le ih = refl
+      by_base u (Some v) e le ih = let lt : r.rank v < r.rank u = r.base u v e in let a : r.rank v < n = omega arith in let b : r.rank v < m = omega arith in ih v a b
+
+      by_type : (o : Option Ty) → find (λ u. any (same_ty s.0) (interfaces_of p u)) (chain p t) ≡ o → ((v : Ty) → r.rank v < n → r.rank v < m → interface_slot n p s v ≡ interface_slot m p s v)
+          → option_and_then (λ u. or_else (implementing p s u) (or_else (option_and_then (interface_slot n p s) (base_of p u)) (first_some (public_like p s) (bases p u)))) o
+          ≡ option_and_then (λ u. or_else (implementing p s u) (or_else (option_and_then (interface_slot m p s) (base_of p u)) (first_some (public_like p s) (bases p u)))) o
+      by_type None e ih = refl
+      by_type (Some u) e ih =
+          let le : r.rank u ≤ r.rank t = chain_low (most_bases p) t u (find_contains _ (chain p t) u e) in
+          ap (λ x. or_else (implementing p s u) (or_else x (first_some (public_like p s) (bases p u)))) (by_base u (base_of p u) refl le ih)
+
   pub far_enough : LooksFarEnough p
   unfolding is_sub
   far_enough =
       record {
-        chains = λ n t le. let l : r.rank t ≤ n = omega (arith, r.within t) in chain_settles n (most_bases p) t l (r.within t);
-        subs = λ n a b le. let l : r.rank a ≤ n = omega (arith, r.within a) in sub_settles n (most_bases p) a b l (r.within a);
+        chains = λ n t le. let l : r.rank t ≤ n = omega (arith, r.within t) in let k : r.rank t ≤ most_bases p = omega (arith, r.within t) in chain_settles n (most_bases p) t l k;
+        subs = λ n a b le. let l : r.rank a ≤ n = omega (arith, r.within a) in let k : r.rank a ≤ most_bases p = omega (arith, r.within a) in sub_settles n (most_bases p) a b l k;
+        slots = λ n s t le. let l : r.rank t < n = omega (arith, r.within t) in slot_settles n (most_bases p) s t l (r.within t);
       }

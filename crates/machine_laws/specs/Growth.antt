@@ -9,13 +9,13 @@ use Rattle.cil_model.specs.declared.program.MethodDesc.{MethodDesc}
 use Rattle.cil_model.specs.declared.program.Meaning.{Meaning}
 use Rattle.cil_semantics.specs.Lookups.{type_of, field_of, method_of, base_of, interfaces_of, most_bases, chain, chain_within, is_sub, is_sub_within}
 use Rattle.cil_semantics.specs.Tokens.{meaning_of}
-use Rattle.cil_semantics.specs.Dispatch.{is_virtual, takes_new_slot, is_abstract, is_public}
+use Rattle.cil_semantics.specs.Dispatch.{Seen, interface_slot, is_virtual, takes_new_slot, is_abstract, is_public}
 use Rattle.cil_semantics.specs.Contracted.{is_seen_type, is_seen_method}
 
--- No type is above itself, by bases and interfaces together: a rank falls from each closed type to its base and to each of its interfaces, and is at most the number of steps that look-ups take.
+-- No type is above itself, by bases and interfaces together: a rank falls from each closed type to its base and to each of its interfaces, and stays under the number of steps that look-ups take.
 pub record Ranked (p : Program) : Type 0 where
   pub rank : Ty → ℕ
-  pub within : (t : Ty) → rank t ≤ most_bases p
+  pub within : (t : Ty) → rank t < most_bases p
   pub base : (t u : Ty) → base_of p t ≡ Some u → rank u < rank t
   pub interfaces : (t u : Ty) → Contains (interfaces_of p t) u → rank u < rank t
 
@@ -23,6 +23,7 @@ pub record Ranked (p : Program) : Type 0 where
 pub record LooksFarEnough (p : Program) : Type 0 where
   pub chains : (n : ℕ) (t : Ty) → most_bases p ≤ n → chain_within n p t ≡ chain p t
   pub subs : (n : ℕ) (a b : Ty) → most_bases p ≤ n → is_sub_within n p a b ≡ is_sub p a b
+  pub slots : (n : ℕ) (s : Seen) (t : Ty) → most_bases p ≤ n → interface_slot n p s t ≡ interface_slot (most_bases p) p s t
 
 -- a type keeps all but its access
 pub record KeptType (d e : TypeDesc) : Type 0 where
