@@ -201,57 +201,59 @@ abbrev pub number_of_object : Value-F Value → Option ℕ
 number_of_object (Value-F.Obj x) = Some x
 number_of_object _ = None
 
--- a new exception is thrown where its constructor was called
-abbrev pub throws_new : Program → Contracts → Use
-throws_new p k =
-    record {
-      now = λ v fs w. if_there (number_of_object (out-Value v)) w (λ x. unwind p k false fs w x);
-      later = λ v. maybe Continuation.Push ThrowObject (number_of_object (out-Value v));
-    }
+module _ (p : Program) (k : Contracts) where
+  -- a new exception is thrown where its constructor was called
+  abbrev pub throws_new : Use
+  throws_new =
+      record {
+        now = λ v fs w. if_there (number_of_object (out-Value v)) w (λ x. unwind p k false fs w x);
+        later = λ v. maybe Continuation.Push ThrowObject (number_of_object (out-Value v));
+      }
 
--- the frames go on where the clause passes
-abbrev pub goes_on_from : Program → Contracts → List Frame → (World → Next) → Sequel
-goes_on_from p k fs passes =
-    record {
-      passes = passes;
-      throws = λ w y. unwind p k false fs w y;
-      makes = λ w t m values. make p k (throws_new p k) t m values fs w;
-      stops = stuck;
-    }
+  -- the frames go on where the clause passes
+  abbrev pub goes_on_from : List Frame → (World → Next) → Sequel
+  goes_on_from fs passes =
+      record {
+        passes = passes;
+        throws = λ w y. unwind p k false fs w y;
+        makes = λ w t m values. make p k (throws_new) t m values fs w;
+        stops = stuck;
+      }
 
-abbrev pub fail : Program → Contracts → AddedNumbers → Failure → List Frame → World → (World → Next) → Next
-fail p k g x fs w passes = failing p g k.settings.throwing x (goes_on_from p k fs passes) fs w
+  abbrev pub fail : AddedNumbers → Failure → List Frame → World → (World → Next) → Next
+  fail g x fs w passes = failing p g k.settings.throwing x (goes_on_from fs passes) fs w
 
 -- ---- contract calls where they stand
 
-abbrev pub check : Program → Contracts → AddedNumbers → Failure → Bool → List Frame → World → (World → Next) → Next
-check p k g x b fs w passes = if b then passes w else fail p k g x fs w passes
+module _ (p : Program) (k : Contracts) where
+  abbrev pub check : AddedNumbers → Failure → Bool → List Frame → World → (World → Next) → Next
+  check g x b fs w passes = if b then passes w else fail p k g x fs w passes
 
--- an Assert or Assume: checked at the full level, else its arguments are dropped
-abbrev pub check_inline : Program → Contracts → AddedNumbers → Plan → ClauseKind → ℕ → Name → Instr → Frame → List Frame → World → Next
-check_inline p k g plan c home label i f fs w =
-    let message : Bool = has_message p i in
-    if rank plan.settings.level == 4
-    then if_there (condition_in message f.local.stack) w (λ (x : Condition).
-    let l : state.Local = with_stack f.local x.rest in
-    check p k g (record { kind = c; exception = None; home = home; user = x.user; label = label }) x.holds (record f { local = l } ∷ fs) w (λ v. go_on p k f l fs v))
-    else if_there (dropped message f.local.stack) w (λ rest. go_on p k f (with_stack f.local rest) fs w)
+  -- an Assert or Assume: checked at the full level, else its arguments are dropped
+  abbrev pub check_inline : AddedNumbers → Plan → ClauseKind → ℕ → Name → Instr → Frame → List Frame → World → Next
+  check_inline g plan c home label i f fs w =
+      let message : Bool = has_message p i in
+      if rank plan.settings.level == 4
+      then if_there (condition_in message f.local.stack) w (λ (x : Condition).
+      let l : state.Local = with_stack f.local x.rest in
+      check g (record { kind = c; exception = None; home = home; user = x.user; label = label }) x.holds (record f { local = l } ∷ fs) w (λ v. go_on p k f l fs v))
+      else if_there (dropped message f.local.stack) w (λ rest. go_on p k f (with_stack f.local rest) fs w)
 
--- the call that ends a clause
-abbrev pub end_clause : Program → Contracts → AddedNumbers → Plan → Group → ℕ → Piece → Instr → Frame → List Frame → World → Next
-end_clause p k g plan gr n x i f fs w =
-    if_there (condition_in (has_message p i) f.local.stack) w (λ (c : Condition).
-    let l : state.Local = with_stack f.local c.rest in
-    check p k g
-    (record { kind = x.clause.kind; exception = option_and_then (ref_type p (here_of f fs)) x.clause.exception; home = x.clause.home; user = c.user; label = x.clause.label })
-    c.holds (record f { local = l } ∷ fs) w (λ v. piece_over p k plan gr n (record f { local = l }) fs v))
+  -- the call that ends a clause
+  abbrev pub end_clause : AddedNumbers → Plan → Group → ℕ → Piece → Instr → Frame → List Frame → World → Next
+  end_clause g plan gr n x i f fs w =
+      if_there (condition_in (has_message p i) f.local.stack) w (λ (c : Condition).
+      let l : state.Local = with_stack f.local c.rest in
+      check g
+      (record { kind = x.clause.kind; exception = option_and_then (ref_type p (here_of f fs)) x.clause.exception; home = x.clause.home; user = c.user; label = x.clause.label })
+      c.holds (record f { local = l } ∷ fs) w (λ v. piece_over p k plan gr n (record f { local = l }) fs v))
 
--- an old value is captured as its type keeps it, and the piece is over
-abbrev pub capture : Program → Contracts → Plan → Group → ℕ → ℕ → Frame → List Value → List Frame → World → Next
-capture p k plan gr n c f [] fs w = stuck w
-capture p k plan gr n c f (v ∷ rest) fs w =
-    if_there (option_and_then (set_cell p v) (slice_get f.local.captured c)) w
-    (λ x. piece_over p k plan gr n (record f { local = record f.local { captured = slice_set f.local.captured c x; stack = rest } }) fs w)
+  -- an old value is captured as its type keeps it, and the piece is over
+  abbrev pub capture : Plan → Group → ℕ → ℕ → Frame → List Value → List Frame → World → Next
+  capture plan gr n c f [] fs w = stuck w
+  capture plan gr n c f (v ∷ rest) fs w =
+      if_there (option_and_then (set_cell p v) (slice_get f.local.captured c)) w
+      (λ x. piece_over p k plan gr n (record f { local = record f.local { captured = slice_set f.local.captured c x; stack = rest } }) fs w)
 
 -- the old range that begins at a place, with its number
 abbrev pub old_at : ℕ → ℕ → List Old → Option (ℕ × Old)

@@ -113,7 +113,7 @@ module _ (p : Program) (k : Contracts) (g : AddedNumbers) where
   step_frames [] w = stuck w
   step_frames (f ∷ fs) w = step_at (plan_at k p f.method) f.at f fs w
 
-  -- Nothing reads what was told: a step begins with an empty trace, and what it tells comes behind.
+  -- Nothing reads what was recorded: a step begins with an empty trace, and what it records comes behind.
   unfoldable pub step : State → Next
   step s = goes_after s.world.trace (step_frames s.frames (unrecorded s.world))
 

@@ -226,29 +226,31 @@ no_handler_left p (Some k) f (InGroup g i q) fs w x below =
 no_handler_left p (Some k) f (Rest q) fs w x below =
     begin_group p k group.Throw (record f { thrown = Some x }) fs w (ends_frame p f.initializes f.continuation w x below)
 
-abbrev pub land : Program → Contracts → Found → Frame → List Handling → ℕ → List Frame → World → ℕ → Below → Next
-land p k NoHandler f hs q fs w x below = no_handler_left p (plan_at k p f.method) f f.at fs w x below
-land p k (CatchHandler i t) f hs q fs w x below =
-    goes_at p f (moved_to t f.at) (with_stack f.local (Obj x ∷ [])) (record { handler = i; cause = Caught x; place = q; next = i + 1 } ∷ hs) fs w
-land p k (CleanupHandler i t) f hs q fs w x below =
-    goes_at p f (moved_to t f.at) (with_stack f.local []) (record { handler = i; cause = Unwinding x; place = q; next = i + 1 } ∷ hs) fs w
+module _ (p : Program) (k : Contracts) where
+  abbrev pub land : Found → Frame → List Handling → ℕ → List Frame → World → ℕ → Below → Next
+  land NoHandler f hs q fs w x below = no_handler_left p (plan_at k p f.method) f f.at fs w x below
+  land (CatchHandler i t) f hs q fs w x below =
+      goes_at p f (moved_to t f.at) (with_stack f.local (Obj x ∷ [])) (record { handler = i; cause = Caught x; place = q; next = i + 1 } ∷ hs) fs w
+  land (CleanupHandler i t) f hs q fs w x below =
+      goes_at p f (moved_to t f.at) (with_stack f.local []) (record { handler = i; cause = Unwinding x; place = q; next = i + 1 } ∷ hs) fs w
 
--- the search in one frame from a clause on, for an exception thrown at q
-abbrev pub throws_in : Program → Contracts → Frame → List Handling → (skip q : ℕ) → List Frame → World → ℕ → Below → Next
-throws_in p k f hs skip q fs w x below = land p k (searched p f w x skip q f.at) f hs q fs w x below
+  -- the search in one frame from a clause on, for an exception thrown at q
+  abbrev pub throws_in : Frame → List Handling → (skip q : ℕ) → List Frame → World → ℕ → Below → Next
+  throws_in f hs skip q fs w x below = land (searched p f w x skip q f.at) f hs q fs w x below
 
 abbrev pub thrown_name : Program → World → ℕ → Name
 thrown_name p w x = maybe [] (ty_name p) (object_type w x)
 
--- An exception goes down the frames; one that hasn't begun is passed over.
-unfoldable pub unwind : Program → Contracts → Bool → List Frame → World → ℕ → Next
-unwind p k skip [] w x = Ended (outcome.Thrown x (thrown_name p w x)) w
-unwind p k true (f ∷ fs) w x = unwind p k false fs w x
-unwind p k false (f ∷ fs) w x = throws_in p k f f.handling 0 (place_in f.at) fs w x (λ skip v y. unwind p k skip fs v y)
+module _ (p : Program) (k : Contracts) where
+  -- An exception goes down the frames; one that hasn't begun is passed over.
+  unfoldable pub unwind : Bool → List Frame → World → ℕ → Next
+  unwind skip [] w x = Ended (outcome.Thrown x (thrown_name p w x)) w
+  unwind true (f ∷ fs) w x = unwind false fs w x
+  unwind false (f ∷ fs) w x = throws_in p k f f.handling 0 (place_in f.at) fs w x (λ skip v y. unwind skip fs v y)
 
--- a new exception of a core class
-abbrev pub raise : Program → Contracts → Name → List Frame → World → Next
-raise p k name fs w = unwind p k false fs (with_object p (record { ty = class_named name; cells = [] }) w) (next_object w)
+  -- a new exception of a core class
+  abbrev pub raise : Name → List Frame → World → Next
+  raise name fs w = unwind false fs (with_object p (record { ty = class_named name; cells = [] }) w) (next_object w)
 
 -- ---- leave, endfinally, rethrow (ECMA-335, III.3.46, 3.35, 4.24)
 
@@ -262,24 +264,25 @@ left_from skip i q t [] = None
 left_from zero i q t (r ∷ rs) = if is_finally r.kind && (in_try r q && not (in_try r t)) then Some (i, r) else left_from zero (i + 1) q t rs
 left_from (suc n) i q t (r ∷ rs) = left_from n (i + 1) q t rs
 
-abbrev pub leave_through : Program → Contracts → Option (ℕ × Region) → Frame → List Handling → (q t : ℕ) → List Frame → World → Next
-leave_through p k None f hs q t fs w =
-    arrive_in p (plan_at k p f.method) f (moved_to t f.at) (with_stack f.local []) hs fs w
-leave_through p k (Some x) f hs q t fs w =
-    goes_at p f (moved_to x.1.handler_from f.at) (with_stack f.local []) (record { handler = x.0; cause = Leaving t; place = q; next = x.0 + 1 } ∷ hs) fs w
+module _ (p : Program) (k : Contracts) where
+  abbrev pub leave_through : Option (ℕ × Region) → Frame → List Handling → (q t : ℕ) → List Frame → World → Next
+  leave_through None f hs q t fs w =
+      arrive_in p (plan_at k p f.method) f (moved_to t f.at) (with_stack f.local []) hs fs w
+  leave_through (Some x) f hs q t fs w =
+      goes_at p f (moved_to x.1.handler_from f.at) (with_stack f.local []) (record { handler = x.0; cause = Leaving t; place = q; next = x.0 + 1 } ∷ hs) fs w
 
-abbrev pub leave : Program → Contracts → (skip q t : ℕ) → Frame → List Handling → List Frame → World → Next
-leave p k skip q t f hs fs w = leave_through p k (left_from skip 0 q t (body_of p f.method).regions) f hs q t fs w
+  abbrev pub leave : (skip q t : ℕ) → Frame → List Handling → List Frame → World → Next
+  leave skip q t f hs fs w = leave_through (left_from skip 0 q t (body_of p f.method).regions) f hs q t fs w
 
-abbrev pub resume_cause : Program → Contracts → Handling → Cause → List Handling → Frame → List Frame → World → Next
-resume_cause p k h (Caught x) hs f fs w = Ended outcome.Stuck w
-resume_cause p k h (Unwinding x) hs f fs w = throws_in p k f hs h.next h.place fs w x (λ skip v y. unwind p k skip fs v y)
-resume_cause p k h (Leaving t) hs f fs w = leave p k h.next h.place t f hs fs w
+  abbrev pub resume_cause : Handling → Cause → List Handling → Frame → List Frame → World → Next
+  resume_cause h (Caught x) hs f fs w = Ended outcome.Stuck w
+  resume_cause h (Unwinding x) hs f fs w = throws_in p k f hs h.next h.place fs w x (λ skip v y. unwind p k skip fs v y)
+  resume_cause h (Leaving t) hs f fs w = leave h.next h.place t f hs fs w
 
--- the end of a finally or fault: what it interrupted goes on
-abbrev pub resume : Program → Contracts → List Handling → Frame → List Frame → World → Next
-resume p k [] f fs w = Ended outcome.Stuck w
-resume p k (h ∷ hs) f fs w = resume_cause p k h h.cause hs f fs w
+  -- the end of a finally or fault: what it interrupted goes on
+  abbrev pub resume : List Handling → Frame → List Frame → World → Next
+  resume [] f fs w = Ended outcome.Stuck w
+  resume (h ∷ hs) f fs w = resume_cause h h.cause hs f fs w
 
 abbrev pub caught_or : Cause → Option ℕ → Option ℕ
 caught_or (Caught x) other = Some x
