@@ -1,6 +1,6 @@
 // What types, names and numbers of a program are to be, and what a grown program keeps.
 
-ghost use Rattle.std.specs.Prelude.{◌≡◌, ◌<◌, ℕ, Bool, false, List, Some, IsTrue, length};
+ghost use Rattle.std.specs.Prelude.{◌≡◌, ◌<◌, ◌==◌, ℕ, Bool, false, List, Some, IsTrue, length};
 ghost use Rattle.cil_model.specs.declared.contract.ClauseKind.TheVariants.{RequiresOf};
 ghost use Rattle.cil_model.specs.declared.contract.Contracts.{Contracts};
 ghost use Rattle.cil_model.specs.declared.program.Program.{Program};
@@ -39,6 +39,7 @@ pub fn added_names()
     ensures constructor { (p : Program) (k : Contracts) (p' : Program) (s : Same p k p') (name : Name) → s.numbers.constructor name < length p'.methods → IsConstructor p' (s.numbers.constructor name) name }
     ensures class { (p : Program) (k : Contracts) (p' : Program) (s : Same p k p') → s.numbers.exception < length p'.types → IsFailureClass p' s.numbers.exception k.target }
     ensures helpers { (p : Program) (k : Contracts) (p' : Program) (s : Same p k p') → s.numbers.event < length p'.methods → IsTrue (method_of p' s.numbers.event).is_static }
+    ensures signatures { (p : Program) (k : Contracts) (p' : Program) (s : Same p k p') (i j : ℕ) → i < length p.methods → j < length p.methods → ((method_of p' i).sig == (method_of p' j).sig) ≡ ((method_of p i).sig == (method_of p j).sig) }
 {}
 
 /// A failed Requires<E> whose E nests over 1,000 deep makes nothing.

@@ -8,3 +8,6 @@ returns-clause-class c = λ p k p' s l. s.added.exception l
 
 pub returns-clause-helpers : goal.returns-clause-helpers
 returns-clause-helpers c = λ p k p' s l. (s.added.event l).static
+
+pub returns-clause-signatures : goal.returns-clause-signatures
+returns-clause-signatures c = λ p k p' s i j l m. s.identities.signatures i j l m
