@@ -110,13 +110,14 @@ struct_type methods = record (class_with (codes "S") methods) { kind = Struct; b
 abbrev pub delegate_ty : Ty
 delegate_ty = class_named (codes "Ext.D")
 
--- the struct's own method, a delegate's constructor, and its Invoke with a result and without
+-- the struct's own method, a delegate's constructor, its Invoke with a result and without, and a static method
 abbrev pub delegate_methods : List MethodDesc
 delegate_methods =
     instance (method 2 (codes "Get") [] int_ty (body (ldarg 0 ∷ using_field 0x7B ∷ ret ∷ []) [] None))
     ∷ outside 3 false (codes ".ctor") (object_ty ∷ Prim 0x18 ∷ []) void_ty
     ∷ outside 3 false (codes "Invoke") [] int_ty
-    ∷ outside 3 false (codes "Invoke") [] void_ty ∷ []
+    ∷ outside 3 false (codes "Invoke") [] void_ty
+    ∷ method 0 (codes "Five") [] int_ty (body (int 5 ∷ ret ∷ []) [] None) ∷ []
 
 abbrev pub with_struct : Ty → MethodDesc → Program
 with_struct t go =
@@ -145,9 +146,10 @@ invoking result k = going result (boxed_five ++ (using_method 0xFE06 8 ∷ new_o
 abbrev pub DelegateOverAStruct : Type 0
 DelegateOverAStruct = checked (with_struct int_ty (invoking int_ty 10)) (with_contract no_effective) 0 [] [] 60 ≡ Some (returns 5, [])
 
--- Invoke without a result on a function with one
+-- Invoke without a result on a static function with one
 abbrev pub DelegateWithAnotherResult : Type 0
-DelegateWithAnotherResult = checked (with_struct int_ty (invoking void_ty 11)) (with_contract no_effective) 0 [] [] 60 ≡ Some (outcome.Stuck, [])
+DelegateWithAnotherResult =
+    checked (with_struct int_ty (going void_ty (bare 0x14 ∷ using_method 0xFE06 5 ∷ new_own 9 ∷ using_method 0x6F 11 ∷ ret ∷ []))) (with_contract no_effective) 0 [] [] 60 ≡ Some (outcome.Stuck, [])
 
 -- ldfld of the box
 abbrev pub FieldOfABox : Type 0
@@ -170,7 +172,7 @@ UnboxToAClass = checked unboxes (with_contract no_effective) 0 [] [] 40 ≡ Some
 abbrev pub making : Program
 making =
     let q = with_struct (Prim 0x05) (going int_ty (call 20 ∷ using_field 0x7B ∷ ret ∷ [])) in
-    record q { methods = q.methods ++ outside 1 true (codes "Make") [] (Known 2) ∷ []; tokens = member_row 20 log_ty 21 [] ∷ q.tokens }
+    record q { methods = q.methods ++ outside 1 true (codes "Make") [] (Known 2) ∷ []; tokens = member_row 20 log_ty 22 [] ∷ q.tokens }
 
 -- a store of the struct truncates its field
 abbrev pub StoreTruncatesFields : Type 0
