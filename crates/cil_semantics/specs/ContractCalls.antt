@@ -1,10 +1,9 @@
 -- Which contract call an instruction is: a member of Contract by its name and parameters, or an abbreviator (Code Contracts User Manual, sections 2 and 6).
 -- It is known by its token's own meaning: what stands for type parameters makes no call one.
-use Rattle.std.specs.Prelude.{ℕ, Bool, true, false, ◌&&◌, ◌+◌, ◌==◌, bytes_eq, List, [], ◌∷◌, length, Option, Some, None, codes, if◌then◌else◌}
+use Rattle.std.specs.Prelude.{ℕ, Bool, true, false, ◌&&◌, ◌+◌, ◌==◌, bytes_eq, List, [], ◌∷◌, length, Option, Some, codes, if◌then◌else◌}
 use Rattle.cil_model.specs.declared.ty.Ty.{Ty, out-Ty}
 use Rattle.cil_model.specs.declared.ty.Ty.TheOpen.{Ty-F}
 use Rattle.cil_model.specs.declared.body.Instr.{Instr}
-use Rattle.cil_model.specs.declared.contract.ClauseKind.{ClauseKind}
 use Rattle.cil_model.specs.declared.contract.ClauseKind.TheVariants as kind
 use Rattle.cil_model.specs.declared.program.Program.{Program}
 use Rattle.cil_model.specs.declared.program.MethodDesc.{MethodDesc}

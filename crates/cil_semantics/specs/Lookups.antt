@@ -1,5 +1,5 @@
 -- Types, fields and methods of a program by their numbers, and the types of which a closed type is a sub.
-use Rattle.std.specs.Prelude.{ℕ, zero, suc, ◌+◌, Bool, true, false, ◌||◌, ◌==◌, if◌then◌else◌, List, [], ◌∷◌, ◌++◌, length, slice_get, unwrap_or, Option, Some, None, option_map, option_to_list, codes}
+use Rattle.std.specs.Prelude.{ℕ, zero, suc, ◌+◌, Bool, true, false, ◌||◌, ◌==◌, if◌then◌else◌, List, [], ◌∷◌, ◌++◌, length, slice_get, unwrap_or, Option, Some, None, option_to_list, codes}
 use Rattle.cil_semantics.specs.Words.{any, maybe}
 use Rattle.cil_model.specs.declared.ty.Ty.{Ty, out-Ty, Prim}
 use Rattle.cil_model.specs.declared.ty.Ty.TheOpen.{Ty-F}

@@ -1,8 +1,8 @@
 -- What a grown program keeps has its identities.
-use Rattle.std.proofs.Common.{◌≡◌, ℕ, sym}
+use Rattle.std.proofs.Common.{sym}
 use Rattle.cil_model.specs.declared.program.Program.{Program}
 use Rattle.machine_laws.specs.Same.{KeepsIdentities}
-use Rattle.machine_laws.specs.Growth.{Extends, KeptType, KeptField, KeptMethod}
+use Rattle.machine_laws.specs.Growth.{Extends}
 
 pub identities : (p q : Program) → Extends p q → KeepsIdentities p q
 identities p q e =

@@ -1,6 +1,5 @@
 -- Places of one type hold one kind of value, where an outside type's kind belongs to its name.
-use Rattle.std.proofs.Common.{◌≡◌, ℕ, Bool, true, false, ◌&&◌, ◌==◌, List, refl, sym, ap, ◌∙◌}
-use Rattle.std.specs.Prelude.{bytes_eq}
+use Rattle.std.proofs.Common.{◌≡◌, Bool, ◌==◌, refl, sym, ap, ◌∙◌}
 use Rattle.std.proofs.lemmas.Bool.{eqb-true}
 use Rattle.std.proofs.lemmas.Slice.Eq.{bytes_eq-Decides}
 use Rattle.cil_base.proofs.Small.{and_both}
@@ -10,9 +9,8 @@ use Rattle.cil_model.specs.declared.ty.Ty.TheOpen.{Ty-F}
 use Rattle.cil_model.specs.declared.program.Program.{Program}
 use Rattle.cil_semantics.specs.Core.{Name}
 use Rattle.cil_semantics.specs.Lookups.{type_of}
-use Rattle.cil_semantics.specs.Types.{same_ty, same_parts}
 use Rattle.cil_semantics.specs.Places.{storage, storage_at, prim_storage, kind_storage}
-use Rattle.machine_laws.specs.Kinds.{Agrees, OneKind}
+use Rattle.machine_laws.specs.Kinds.{OneKind}
 
 module _ (p : Program) (is_value : Name → Bool) where
   pub one_kind : OneKind p is_value

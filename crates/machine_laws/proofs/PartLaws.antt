@@ -8,12 +8,11 @@ use Rattle.cil_model.specs.declared.contract.Group.TheVariants as group
 use Rattle.cil_model.specs.declared.program.Program.{Program}
 use Rattle.cil_semantics.specs.Words.{maybe}
 use Rattle.cil_semantics.specs.declared.state.World.{World}
-use Rattle.cil_semantics.specs.declared.state.Local.{Local}
 use Rattle.cil_semantics.specs.declared.state.ProgramPoint.TheVariants.{LeadIn}
 use Rattle.cil_semantics.specs.declared.state.Frame.{Frame}
 use Rattle.cil_semantics.specs.State.{with_local, with_stack, Next, raised, lowered}
 use Rattle.cil_semantics.specs.Contracted.{Piece, Plan, runs_at}
-use Rattle.cil_semantics.specs.Unwind.{begin_entry, begin_first, go_to_rest, piece_at, goes_at, next_piece, begin_piece, begin_group, begin_rest, ends_frame, drops, unwind, after_entry_piece}
+use Rattle.cil_semantics.specs.Unwind.{begin_entry, begin_first, go_to_rest, piece_at, goes_at, next_piece, begin_piece, begin_group, ends_frame, drops, unwind, after_entry_piece}
 use Rattle.cil_semantics.specs.Returns.{return_to, begin_invariants, group_over, piece_over}
 use Rattle.cil_semantics.specs.Frames.{stuck}
 use Rattle.machine_laws.specs.FourParts.{at_piece, FirstPart, EntryPart, GroupsThrow, ReturnPart, ThrowPart, GoesByParts}

@@ -1,5 +1,5 @@
 -- Outside types whose kind belongs to their name: a value type where some signature of the set says VALUETYPE, and then each such type says so (ECMA-335, II.23.2.12).
-use Rattle.std.specs.Prelude.{◌≡◌, ℕ, ◌<◌, Bool, true, length}
+use Rattle.std.specs.Prelude.{◌≡◌, Bool, true}
 use Rattle.cil_model.specs.declared.ty.Ty.{Ty, Prim, Known, Outside, Array', ByRef', Var, MVar, Opaque, Inst', Row_of-Ty, end_of-Ty, more_of-Ty}
 use Rattle.cil_model.specs.declared.program.Program.{Program}
 use Rattle.cil_semantics.specs.Core.{Name}

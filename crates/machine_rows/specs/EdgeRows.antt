@@ -1,5 +1,5 @@
 -- Small programs at the edges of the definitions: bases, boxes, delegates, stores, contract calls and replies.
-use Rattle.std.specs.Prelude.{◌≡◌, ℕ, ◌+◌, true, false, List, [], ◌∷◌, ◌++◌, Some, None, codes}
+use Rattle.std.specs.Prelude.{◌≡◌, ℕ, true, false, List, [], ◌∷◌, ◌++◌, Some, None, codes}
 use Rattle.cil_base.specs.declared.token.Token.{Token}
 use Rattle.cil_model.specs.declared.ty.Ty.{Ty, Prim, Known}
 use Rattle.cil_model.specs.declared.ty.Ty.TheVariants as ty
@@ -8,7 +8,6 @@ use Rattle.cil_model.specs.declared.value.Value.TheVariants as value
 use Rattle.cil_model.specs.declared.body.Instr.{Instr}
 use Rattle.cil_model.specs.declared.body.RegionKind.TheVariants as region
 use Rattle.cil_model.specs.declared.body.Operand.TheVariants.{Index, Tok}
-use Rattle.cil_model.specs.declared.contract.Contracts.{Contracts}
 use Rattle.cil_model.specs.declared.contract.Effective.{Effective}
 use Rattle.cil_model.specs.declared.contract.ClauseKind.TheVariants as kind
 use Rattle.cil_model.specs.declared.contract.Level.TheVariants.{Full}
@@ -24,12 +23,12 @@ use Rattle.cil_model.specs.declared.run.Outcome.TheVariants as outcome
 use Rattle.cil_model.specs.declared.run.ReplyResult.TheVariants as reply
 use Rattle.cil_semantics.specs.declared.contract_call.ContractCall.TheVariants.{NoContractCall}
 use Rattle.cil_semantics.specs.ContractCalls.{contract_call}
-use Rattle.cil_semantics.specs.Core.{Name, class_named, object_ty, string_ty, contract_name, helper_name, outside_base}
+use Rattle.cil_semantics.specs.Core.{class_named, object_ty, string_ty, contract_name, helper_name, outside_base}
 use Rattle.cil_semantics.specs.Dispatch.{body_for}
 use Rattle.cil_semantics.specs.Lookups.{is_sub}
 use Rattle.machine_rows.specs.Samples.{instr, bare, ldarg, ldloc, int, jump, call, ret, body, int_ty, bool_ty, void_ty, method, outside, class_with, outside_class, clause, no_effective, contracts, replies, null_reply, failed, sample, member_row, requires, ensures_call, assert, log_ty, call_own, type_token, type_ref, method_token, checked, i4, returns, contract_exception_name, contract_ty}
 use Rattle.machine_rows.specs.Rows.{with_contract, positive, inc, inc_contract, inc_label}
-use Rattle.machine_rows.specs.MoreRows.{protects, instance, new_own, field_token, va}
+use Rattle.machine_rows.specs.MoreRows.{protects, instance, new_own, field_token}
 
 -- ---- words
 
