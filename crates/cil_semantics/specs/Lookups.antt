@@ -1,6 +1,6 @@
 -- Types, fields and methods of a program by their numbers, and the types of which a closed type is a sub.
-use Rattle.std.specs.Prelude.{ℕ, zero, suc, ◌+◌, Bool, true, false, ◌||◌, ◌==◌, if◌then◌else◌, List, [], ◌∷◌, ◌++◌, length, get_or, Option, Some, None, option_map, option_to_list, codes}
-use Rattle.cil_semantics.specs.Words.{any}
+use Rattle.std.specs.Prelude.{ℕ, zero, suc, ◌+◌, Bool, true, false, ◌||◌, ◌==◌, if◌then◌else◌, List, [], ◌∷◌, ◌++◌, length, slice_get, unwrap_or, Option, Some, None, option_to_list, codes}
+use Rattle.cil_semantics.specs.Words.{any, maybe}
 use Rattle.cil_model.specs.declared.ty.Ty.{Ty, out-Ty, Prim}
 use Rattle.cil_model.specs.declared.ty.Ty.TheOpen.{Ty-F}
 use Rattle.cil_model.specs.declared.ty.Ty.TheVariants as ty
@@ -10,26 +10,26 @@ use Rattle.cil_model.specs.declared.program.FieldDesc.{FieldDesc}
 use Rattle.cil_model.specs.declared.program.MethodDesc.{MethodDesc}
 use Rattle.cil_model.specs.declared.program.Kind.TheVariants.{Class}
 use Rattle.cil_semantics.specs.Types.{Layer, under, all_under, same_ty}
-use Rattle.cil_semantics.specs.Core.{class, object_ty, outside_base}
+use Rattle.cil_semantics.specs.Core.{class_named, object_ty, outside_base}
 
 -- The class of the exception that a failed clause makes. It stands for each number past the types of a program.
 unfoldable pub contract_exception : TypeDesc
-contract_exception = record { assembly = 0; row = 0; name = codes "__ContractsRuntime/ContractException"; base = Some (class (codes "System.Exception")); kind = Class; interfaces = []; fields = []; methods = []; impls = []; enclosing = None; flags = 0; outside = false; reference = false; contract_class = None; contract_class_for = None; generated = false; generics = 0 }
+contract_exception = record { assembly = 0; row = 0; name = codes "__ContractsRuntime/ContractException"; base = Some (class_named (codes "System.Exception")); kind = Class; interfaces = []; fields = []; methods = []; impls = []; enclosing = None; flags = 0; outside = false; reference = false; contract_class = None; contract_class_for = None; generated = false; generics = 0 }
 
 abbrev pub type_of : Program → ℕ → TypeDesc
-type_of p k = get_or p.types k contract_exception
+type_of p k = unwrap_or (slice_get p.types k) contract_exception
 
 unfoldable pub no_field : FieldDesc
 no_field = record { owner = 0; name = []; ty = ty.Opaque; is_static = false; flags = 0 }
 
 abbrev pub field_of : Program → ℕ → FieldDesc
-field_of p f = get_or p.fields f no_field
+field_of p f = unwrap_or (slice_get p.fields f) no_field
 
 unfoldable pub no_method : MethodDesc
 no_method = record { assembly = 0; row = 0; owner = 0; name = []; params = []; result = Prim 0x01; sig = 0; is_static = true; flags = 0; outside = true; abbreviator = false; invariant = false; generated = false; body = None; generics = 0 }
 
 abbrev pub method_of : Program → ℕ → MethodDesc
-method_of p m = get_or p.methods m no_method
+method_of p m = unwrap_or (slice_get p.methods m) no_method
 
 -- a type of the set, with its arguments
 abbrev pub in_set : Layer → Option (ℕ × List Ty)
@@ -38,22 +38,19 @@ in_set (Ty-F.Inst k args) = Some (k, args)
 in_set _ = None
 
 abbrev pub args_of : Ty → List Ty
-args_of t = args_in (in_set (out-Ty t))
-  where
-    args_in : Option (ℕ × List Ty) → List Ty
-    args_in None = []
-    args_in (Some d) = d.1
+args_of t = maybe [] (λ (d : ℕ × List Ty). d.1) (in_set (out-Ty t))
 
--- the base of a type that is not of the set
+-- The base of a type that is not of the set: System.Object for all that have no other, but for System.Object itself.
 abbrev pub built_in_base : Layer → Option Ty
-built_in_base (Ty-F.Prim b) = if b == 0x1C then None else if b == 0x0E then Some object_ty else Some (class (codes "System.ValueType"))
+built_in_base (Ty-F.Prim b) = if b == 0x1C then None else if b == 0x0E then Some object_ty else Some (class_named (codes "System.ValueType"))
 built_in_base (Ty-F.Outside name value) = Some (outside_base name value)
-built_in_base (Ty-F.Array item) = Some (class (codes "System.Array"))
-built_in_base _ = None
+built_in_base (Ty-F.Array item) = Some (class_named (codes "System.Array"))
+built_in_base _ = Some object_ty
 
+-- System.Object where a row names none, as an interface's does
 abbrev pub base_from : Program → Option (ℕ × List Ty) → Layer → Option Ty
 base_from p None t = built_in_base t
-base_from p (Some d) t = option_map (under d.1 []) (type_of p d.0).base
+base_from p (Some d) t = Some (maybe object_ty (under d.1 []) (type_of p d.0).base)
 
 -- the base of a closed type (ECMA-335, II.10.1.3)
 unfoldable pub base_of : Program → Ty → Option Ty

@@ -14,9 +14,9 @@ use Rattle.cil_model.specs.declared.contract.Group.TheVariants as group
 use Rattle.cil_model.specs.declared.run.Outcome.TheVariants as outcome
 use Rattle.cil_semantics.specs.Words.{maybe}
 use Rattle.cil_semantics.specs.Types.{under, same_ty}
-use Rattle.cil_semantics.specs.Core.{Name, class}
+use Rattle.cil_semantics.specs.Core.{Name, class_named}
 use Rattle.cil_semantics.specs.Lookups.{method_of, is_sub}
-use Rattle.cil_semantics.specs.State.{Object, World, Local, At, Lead, In, Rest, Cause, Caught, Thrown_on, Left_for, Handling, Frame, Next, Goes, Ends, Statics, Failed, Begins, Back, with_stack, raised, lowered, object_at, next_object, with_object}
+use Rattle.cil_semantics.specs.State.{Object, World, Local, ProgramPoint, LeadIn, InGroup, Rest, with_local, Cause, Caught, Unwinding, Leaving, Handling, Frame, Next, Running, Ended, Statics, Failed, BeginCallee, Continuation, with_stack, raised, lowered, object_at, next_object, with_object}
 use Rattle.cil_semantics.specs.Tokens.{Here, meaning_of, as_type, ref_type, locals_in}
 use Rattle.cil_semantics.specs.Contracted.{Piece, Plan, plan_for, pieces, runs_at}
 use Rattle.cil_semantics.specs.Acts.{ty_name}
@@ -47,17 +47,17 @@ piece_at (Some k) g i = slice_get (pieces k g) i
 
 -- ---- places
 
-abbrev pub place_in : At → ℕ
-place_in (Lead q) = q
-place_in (In g i q) = q
+abbrev pub place_in : ProgramPoint → ℕ
+place_in (LeadIn q) = q
+place_in (InGroup g i q) = q
 place_in (Rest q) = q
 
-abbrev pub moved_to : ℕ → At → At
-moved_to t (Lead q) = Lead t
-moved_to t (In g i q) = In g i t
+abbrev pub moved_to : ℕ → ProgramPoint → ProgramPoint
+moved_to t (LeadIn q) = LeadIn t
+moved_to t (InGroup g i q) = InGroup g i t
 moved_to t (Rest q) = Rest t
 
-abbrev pub next_place : At → At
+abbrev pub next_place : ProgramPoint → ProgramPoint
 next_place at = moved_to (place_in at + 1) at
 
 abbrev pub holds_place : ℕ → ℕ → ℕ → Bool
@@ -71,15 +71,15 @@ abbrev pub in_handler : List Region → ℕ → Handling → Bool
 in_handler rs q h = maybe false (λ (r : Region). holds_place r.handler_from r.handler_to q) (slice_get rs h.handler)
 
 -- at a place only what its own handlers do goes on; a piece has none
-abbrev pub handled_at : List Region → At → List Handling → List Handling
-handled_at rs (Lead q) hs = filter (in_handler rs q) hs
-handled_at rs (In g i q) hs = []
+abbrev pub handled_at : List Region → ProgramPoint → List Handling → List Handling
+handled_at rs (LeadIn q) hs = filter (in_handler rs q) hs
+handled_at rs (InGroup g i q) hs = []
 handled_at rs (Rest q) hs = filter (in_handler rs q) hs
 
 -- the frame stands at a place
-abbrev pub goes_at : Program → Frame → At → Local → List Handling → List Frame → World → Next
+abbrev pub goes_at : Program → Frame → ProgramPoint → Local → List Handling → List Frame → World → Next
 goes_at p f at l hs fs w =
-    Goes (record { frames = record f { local = l; at = at; handling = handled_at (body_of p f.method).regions at hs } ∷ fs; world = w })
+    Running (record { frames = record f { local = l; at = at; handling = handled_at (body_of p f.method).regions at hs } ∷ fs; world = w })
 
 -- ---- types of exceptions
 
@@ -99,11 +99,7 @@ caught_type p f token =
 
 -- whether a piece of a group runs: of EnsuresOnThrow only where the exception fits
 abbrev pub takes_part : Program → Frame → List Frame → World → Piece → Bool
-takes_part p f fs w x = fits f.thrown
-  where
-    fits : Option ℕ → Bool
-    fits None = true
-    fits (Some y) = fits_type p w y (option_and_then (ref_type p (here_of f fs)) x.clause.exception)
+takes_part p f fs w x = maybe true (λ y. fits_type p w y (option_and_then (ref_type p (here_of f fs)) x.clause.exception)) f.thrown
 
 -- the first piece that takes part, from a number on
 abbrev pub first_from : (Piece → Bool) → ℕ → ℕ → List Piece → Option (ℕ × Piece)
@@ -115,33 +111,46 @@ abbrev pub next_piece : Program → Plan → Group → ℕ → Frame → List Fr
 next_piece p k g i f fs w = first_from (takes_part p f fs w) i 0 (pieces k g)
 
 -- the piece begins, or where there is none the group is over
-abbrev pub begin_piece : Program → Group → Option (ℕ × Piece) → Frame → Local → List Frame → World → Next → Next
-begin_piece p g None f l fs w over = over
-begin_piece p g (Some x) f l fs w over = goes_at p f (In g x.0 x.1.from) (with_stack l []) [] fs w
+abbrev pub begin_piece : Program → Group → Option (ℕ × Piece) → Frame → List Frame → World → Next → Next
+begin_piece p g None f fs w over = over
+begin_piece p g (Some x) f fs w over = goes_at p f (InGroup g x.0 x.1.from) (with_stack f.local []) [] fs w
 
 -- a group runs, with the depth one higher, or is passed over
-abbrev pub begin_group : Program → Plan → Group → Frame → Local → List Frame → World → Next → Next
-begin_group p k g f l fs w over =
-    if runs_at k g w.depth then begin_piece p g (next_piece p k g 0 f fs w) f l fs (raised w) over else over
+abbrev pub begin_group : Program → Plan → Group → Frame → List Frame → World → Next → Next
+begin_group p k g f fs w over =
+    if runs_at k g w.depth then begin_piece p g (next_piece p k g 0 f fs w) f fs (raised w) over else over
 
-abbrev pub begin_rest : Program → Plan → Frame → Local → List Frame → World → Next
-begin_rest p k f l fs w = goes_at p f (Rest k.effective.rest_from) (with_stack l []) [] fs w
+-- the rest, with the stack that is there
+abbrev pub go_to_rest : Program → Plan → Frame → List Frame → World → Next
+go_to_rest p k f fs w = goes_at p f (Rest k.effective.rest_from) f.local [] fs w
+
+abbrev pub begin_rest : Program → Plan → Frame → List Frame → World → Next
+begin_rest p k f fs w = go_to_rest p k (with_local (with_stack f.local []) f) fs w
+
+-- The entry group runs, or is passed over. Its first piece, or the rest, finds the stack of the lead-in, which is empty by the rule on heights; behind each piece it is emptied.
+abbrev pub begin_first : Program → Plan → Option (ℕ × Piece) → Frame → List Frame → World → Next
+begin_first p k None f fs w = go_to_rest p k f fs w
+begin_first p k (Some x) f fs w = goes_at p f (InGroup group.Entry x.0 x.1.from) f.local [] fs (raised w)
+
+abbrev pub begin_entry : Program → Plan → Frame → List Frame → World → Next
+begin_entry p k f fs w =
+    if runs_at k group.Entry w.depth then begin_first p k (next_piece p k group.Entry 0 f fs w) f fs w else go_to_rest p k f fs w
 
 -- A frame has come to a place. At the end of the lead-in the entry group runs, and then the rest, at once.
-abbrev pub arrive_in : Program → Option Plan → Frame → At → Local → List Handling → List Frame → World → Next
+abbrev pub arrive_in : Program → Option Plan → Frame → ProgramPoint → Local → List Handling → List Frame → World → Next
 arrive_in p None f at l hs fs w = goes_at p f at l hs fs w
-arrive_in p (Some k) f (Lead q) l hs fs w =
-    if q == k.effective.lead_end then begin_group p k group.Entry f l fs w (begin_rest p k f l fs w) else goes_at p f (Lead q) l hs fs w
-arrive_in p (Some k) f (In g i q) l hs fs w = goes_at p f (In g i q) l [] fs w
+arrive_in p (Some k) f (LeadIn q) l hs fs w =
+    if q == k.effective.lead_end then begin_entry p k (with_local l f) fs w else goes_at p f (LeadIn q) l hs fs w
+arrive_in p (Some k) f (InGroup g i q) l hs fs w = goes_at p f (InGroup g i q) l [] fs w
 arrive_in p (Some k) f (Rest q) l hs fs w = goes_at p f (Rest q) l hs fs w
 
-abbrev pub arrive : Program → Contracts → Frame → At → Local → List Frame → World → Next
+abbrev pub arrive : Program → Contracts → Frame → ProgramPoint → Local → List Frame → World → Next
 arrive p k f at l fs w = arrive_in p (plan_at k p f.method) f at l f.handling fs w
 
 -- the piece of the entry group after this one, or the rest
-abbrev pub after_entry_piece : Program → Plan → ℕ → Frame → Local → List Frame → World → Next
-after_entry_piece p k i f l fs w =
-    begin_piece p group.Entry (next_piece p k group.Entry (i + 1) f fs w) f l fs w (begin_rest p k f l fs (lowered w))
+abbrev pub after_entry_piece : Program → Plan → ℕ → Frame → List Frame → World → Next
+after_entry_piece p k i f fs w =
+    begin_piece p group.Entry (next_piece p k group.Entry (i + 1) f fs w) f fs w (begin_rest p k f fs (lowered w))
 
 -- ---- statics and initializers
 
@@ -160,48 +169,48 @@ with_failed t y w =
     record w { statics = set_statics (same_ty t) (maybe (record { owner = t; init = Some (Failed y); cells = [] }) (λ (s : Statics). record s { init = Some (Failed y) }) (find_statics t w.statics)) w.statics }
 
 abbrev pub initialization_failed : Object
-initialization_failed = record { ty = class (codes "System.TypeInitializationException"); cells = [] }
+initialization_failed = record { ty = class_named (codes "System.TypeInitializationException"); cells = [] }
 
 -- ---- unwinding
 
 -- where a search for handlers ends
 pub data Found : Type 0 where
-  Nowhere : Found
-  Catches : (index target : ℕ) → Found
-  Runs : (index target : ℕ) → Found
+  NoHandler : Found
+  CatchHandler : (index target : ℕ) → Found
+  CleanupHandler : (index target : ℕ) → Found
 
 -- what a region does for an exception that is thrown in its try block
 abbrev pub found_in : (Token → Bool) → Region → ℕ → RegionKind → Option Found
-found_in fits r i (region.Catch token) = if fits token then Some (Catches i r.handler_from) else None
-found_in fits r i (region.Filter place) = None
-found_in fits r i region.Finally = Some (Runs i r.handler_from)
-found_in fits r i region.Fault = Some (Runs i r.handler_from)
+found_in catches r i (region.Catch token) = if catches token then Some (CatchHandler i r.handler_from) else None
+found_in catches r i (region.Filter place) = None
+found_in catches r i region.Finally = Some (CleanupHandler i r.handler_from)
+found_in catches r i region.Fault = Some (CleanupHandler i r.handler_from)
 
 -- the first region from a number on that holds the place and takes the exception
 abbrev pub search_from : (Token → Bool) → ℕ → ℕ → ℕ → List Region → Found
-search_from fits skip i q [] = Nowhere
-search_from fits zero i q (r ∷ rs) =
-    if in_try r q then maybe (search_from fits zero (i + 1) q rs) (λ x. x) (found_in fits r i r.kind) else search_from fits zero (i + 1) q rs
-search_from fits (suc n) i q (r ∷ rs) = search_from fits n (i + 1) q rs
+search_from catches skip i q [] = NoHandler
+search_from catches zero i q (r ∷ rs) =
+    if in_try r q then maybe (search_from catches zero (i + 1) q rs) (λ x. x) (found_in catches r i r.kind) else search_from catches zero (i + 1) q rs
+search_from catches (suc n) i q (r ∷ rs) = search_from catches n (i + 1) q rs
 
-abbrev pub searched : Program → Frame → World → ℕ → (skip q : ℕ) → At → Found
-searched p f w x skip q (Lead _) = search_from (λ token. fits_type p w x (caught_type p f token)) skip 0 q (body_of p f.method).regions
-searched p f w x skip q (In g i _) = Nowhere
+abbrev pub searched : Program → Frame → World → ℕ → (skip q : ℕ) → ProgramPoint → Found
+searched p f w x skip q (LeadIn _) = search_from (λ token. fits_type p w x (caught_type p f token)) skip 0 q (body_of p f.method).regions
+searched p f w x skip q (InGroup g i _) = NoHandler
 searched p f w x skip q (Rest _) = search_from (λ token. fits_type p w x (caught_type p f token)) skip 0 q (body_of p f.method).regions
 
 -- what happens below a frame that an exception ends: whether the frame below hasn't begun, the world, and the exception
 abbrev pub Below : Type 0
 Below = Bool → World → ℕ → Next
 
-abbrev pub hasnt_begun : Back → Bool
-hasnt_begun Begins = true
+abbrev pub hasnt_begun : Continuation → Bool
+hasnt_begun BeginCallee = true
 hasnt_begun _ = false
 
 -- An exception of an initializer becomes a TypeInitializationException, which is kept (ECMA-335, II.10.5.3.1 and the class library's text).
-abbrev pub ends_frame : Option Ty → Back → World → ℕ → Below → Next
-ends_frame None back w x below = below (hasnt_begun back) w x
-ends_frame (Some t) back w x below =
-    below (hasnt_begun back) (with_failed t (next_object w) (with_object initialization_failed w)) (next_object w)
+abbrev pub ends_frame : Program → Option Ty → Continuation → World → ℕ → Below → Next
+ends_frame p None back w x below = below (hasnt_begun back) w x
+ends_frame p (Some t) back w x below =
+    below (hasnt_begun back) (with_failed t (next_object w) (with_object p initialization_failed w)) (next_object w)
 
 -- a captured value's exception is dropped
 abbrev pub drops : Option Piece → Bool
@@ -209,37 +218,39 @@ drops None = false
 drops (Some x) = maybe false (λ c. true) x.captures
 
 -- The frame has no handler left. In the rest the group of EnsuresOnThrow runs; an exception of a group goes on.
-abbrev pub gives_up : Program → Option Plan → Frame → At → List Frame → World → ℕ → Below → Next
-gives_up p None f at fs w x below = ends_frame f.initializes f.back w x below
-gives_up p (Some k) f (Lead q) fs w x below = ends_frame f.initializes f.back w x below
-gives_up p (Some k) f (In g i q) fs w x below =
-    if drops (piece_at (Some k) g i) then after_entry_piece p k i f f.local fs w else ends_frame f.initializes f.back (lowered w) x below
-gives_up p (Some k) f (Rest q) fs w x below =
-    begin_group p k group.Throw (record f { thrown = Some x }) f.local fs w (ends_frame f.initializes f.back w x below)
+abbrev pub no_handler_left : Program → Option Plan → Frame → ProgramPoint → List Frame → World → ℕ → Below → Next
+no_handler_left p None f at fs w x below = ends_frame p f.initializes f.continuation w x below
+no_handler_left p (Some k) f (LeadIn q) fs w x below = ends_frame p f.initializes f.continuation w x below
+no_handler_left p (Some k) f (InGroup g i q) fs w x below =
+    if drops (piece_at (Some k) g i) then after_entry_piece p k i f fs w else ends_frame p f.initializes f.continuation (lowered w) x below
+no_handler_left p (Some k) f (Rest q) fs w x below =
+    begin_group p k group.Throw (record f { thrown = Some x }) fs w (ends_frame p f.initializes f.continuation w x below)
 
-abbrev pub land : Program → Contracts → Found → Frame → List Handling → ℕ → List Frame → World → ℕ → Below → Next
-land p k Nowhere f hs q fs w x below = gives_up p (plan_at k p f.method) f f.at fs w x below
-land p k (Catches i t) f hs q fs w x below =
-    goes_at p f (moved_to t f.at) (with_stack f.local (Obj x ∷ [])) (record { handler = i; cause = Caught x; place = q; next = i + 1 } ∷ hs) fs w
-land p k (Runs i t) f hs q fs w x below =
-    goes_at p f (moved_to t f.at) (with_stack f.local []) (record { handler = i; cause = Thrown_on x; place = q; next = i + 1 } ∷ hs) fs w
+module _ (p : Program) (k : Contracts) where
+  abbrev pub land : Found → Frame → List Handling → ℕ → List Frame → World → ℕ → Below → Next
+  land NoHandler f hs q fs w x below = no_handler_left p (plan_at k p f.method) f f.at fs w x below
+  land (CatchHandler i t) f hs q fs w x below =
+      goes_at p f (moved_to t f.at) (with_stack f.local (Obj x ∷ [])) (record { handler = i; cause = Caught x; place = q; next = i + 1 } ∷ hs) fs w
+  land (CleanupHandler i t) f hs q fs w x below =
+      goes_at p f (moved_to t f.at) (with_stack f.local []) (record { handler = i; cause = Unwinding x; place = q; next = i + 1 } ∷ hs) fs w
 
--- the search in one frame from a clause on, for an exception thrown at q
-abbrev pub throws_in : Program → Contracts → Frame → List Handling → (skip q : ℕ) → List Frame → World → ℕ → Below → Next
-throws_in p k f hs skip q fs w x below = land p k (searched p f w x skip q f.at) f hs q fs w x below
+  -- the search in one frame from a clause on, for an exception thrown at q
+  abbrev pub throws_in : Frame → List Handling → (skip q : ℕ) → List Frame → World → ℕ → Below → Next
+  throws_in f hs skip q fs w x below = land (searched p f w x skip q f.at) f hs q fs w x below
 
 abbrev pub thrown_name : Program → World → ℕ → Name
 thrown_name p w x = maybe [] (ty_name p) (object_type w x)
 
--- An exception goes down the frames; one that hasn't begun is passed over.
-unfoldable pub unwind : Program → Contracts → Bool → List Frame → World → ℕ → Next
-unwind p k skip [] w x = Ends (outcome.Thrown x (thrown_name p w x)) w
-unwind p k true (f ∷ fs) w x = unwind p k false fs w x
-unwind p k false (f ∷ fs) w x = throws_in p k f f.handling 0 (place_in f.at) fs w x (λ skip v y. unwind p k skip fs v y)
+module _ (p : Program) (k : Contracts) where
+  -- An exception goes down the frames; one that hasn't begun is passed over.
+  unfoldable pub unwind : Bool → List Frame → World → ℕ → Next
+  unwind skip [] w x = Ended (outcome.Thrown x (thrown_name p w x)) w
+  unwind true (f ∷ fs) w x = unwind false fs w x
+  unwind false (f ∷ fs) w x = throws_in p k f f.handling 0 (place_in f.at) fs w x (λ skip v y. unwind skip fs v y)
 
--- a new exception of a core class
-abbrev pub raise : Program → Contracts → Name → List Frame → World → Next
-raise p k name fs w = unwind p k false fs (with_object (record { ty = class name; cells = [] }) w) (next_object w)
+  -- a new exception of a core class
+  abbrev pub raise : Name → List Frame → World → Next
+  raise name fs w = unwind false fs (with_object p (record { ty = class_named name; cells = [] }) w) (next_object w)
 
 -- ---- leave, endfinally, rethrow (ECMA-335, III.3.46, 3.35, 4.24)
 
@@ -253,30 +264,31 @@ left_from skip i q t [] = None
 left_from zero i q t (r ∷ rs) = if is_finally r.kind && (in_try r q && not (in_try r t)) then Some (i, r) else left_from zero (i + 1) q t rs
 left_from (suc n) i q t (r ∷ rs) = left_from n (i + 1) q t rs
 
-abbrev pub leave_by : Program → Contracts → Option (ℕ × Region) → Frame → List Handling → (q t : ℕ) → List Frame → World → Next
-leave_by p k None f hs q t fs w =
-    arrive_in p (plan_at k p f.method) f (moved_to t f.at) (with_stack f.local []) hs fs w
-leave_by p k (Some x) f hs q t fs w =
-    goes_at p f (moved_to x.1.handler_from f.at) (with_stack f.local []) (record { handler = x.0; cause = Left_for t; place = q; next = x.0 + 1 } ∷ hs) fs w
+module _ (p : Program) (k : Contracts) where
+  abbrev pub leave_through : Option (ℕ × Region) → Frame → List Handling → (q t : ℕ) → List Frame → World → Next
+  leave_through None f hs q t fs w =
+      arrive_in p (plan_at k p f.method) f (moved_to t f.at) (with_stack f.local []) hs fs w
+  leave_through (Some x) f hs q t fs w =
+      goes_at p f (moved_to x.1.handler_from f.at) (with_stack f.local []) (record { handler = x.0; cause = Leaving t; place = q; next = x.0 + 1 } ∷ hs) fs w
 
-abbrev pub leave : Program → Contracts → (skip q t : ℕ) → Frame → List Handling → List Frame → World → Next
-leave p k skip q t f hs fs w = leave_by p k (left_from skip 0 q t (body_of p f.method).regions) f hs q t fs w
+  abbrev pub leave : (skip q t : ℕ) → Frame → List Handling → List Frame → World → Next
+  leave skip q t f hs fs w = leave_through (left_from skip 0 q t (body_of p f.method).regions) f hs q t fs w
 
-abbrev pub resume_by : Program → Contracts → Handling → Cause → List Handling → Frame → List Frame → World → Next
-resume_by p k h (Caught x) hs f fs w = Ends outcome.Stuck w
-resume_by p k h (Thrown_on x) hs f fs w = throws_in p k f hs h.next h.place fs w x (λ skip v y. unwind p k skip fs v y)
-resume_by p k h (Left_for t) hs f fs w = leave p k h.next h.place t f hs fs w
+  abbrev pub resume_cause : Handling → Cause → List Handling → Frame → List Frame → World → Next
+  resume_cause h (Caught x) hs f fs w = Ended outcome.Stuck w
+  resume_cause h (Unwinding x) hs f fs w = throws_in p k f hs h.next h.place fs w x (λ skip v y. unwind p k skip fs v y)
+  resume_cause h (Leaving t) hs f fs w = leave h.next h.place t f hs fs w
 
--- the end of a finally or fault: what it interrupted goes on
-abbrev pub resume : Program → Contracts → List Handling → Frame → List Frame → World → Next
-resume p k [] f fs w = Ends outcome.Stuck w
-resume p k (h ∷ hs) f fs w = resume_by p k h h.cause hs f fs w
+  -- the end of a finally or fault: what it interrupted goes on
+  abbrev pub resume : List Handling → Frame → List Frame → World → Next
+  resume [] f fs w = Ended outcome.Stuck w
+  resume (h ∷ hs) f fs w = resume_cause h h.cause hs f fs w
+
+abbrev pub caught_or : Cause → Option ℕ → Option ℕ
+caught_or (Caught x) other = Some x
+caught_or _ other = other
 
 -- the object of the innermost catch
 abbrev pub innermost : List Handling → Option ℕ
 innermost [] = None
-innermost (h ∷ hs) = caught_by h.cause (innermost hs)
-  where
-    caught_by : Cause → Option ℕ → Option ℕ
-    caught_by (Caught x) other = Some x
-    caught_by _ other = other
+innermost (h ∷ hs) = caught_or h.cause (innermost hs)

@@ -1,0 +1,5 @@
+pub mod Simulation
+pub mod Same
+pub mod FourParts
+pub mod Growth
+pub mod Kinds

@@ -1,0 +1,4 @@
+pub mod RowLaws
+pub mod MoreRowLaws
+pub mod SplicedRowLaws
+pub mod EdgeRowLaws
