@@ -1,0 +1,10 @@
+pub mod Bodies
+pub mod Grown
+pub mod WellFormed
+pub mod Comes
+pub mod Layout
+pub mod Input
+pub mod Spliced
+pub mod Acting
+pub mod Related
+pub mod KeepsProgram

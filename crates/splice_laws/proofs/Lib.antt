@@ -1,0 +1,14 @@
+pub mod StraightLaws
+pub mod LeavingLaws
+pub mod HelperCallLaws
+pub mod AskLaws
+pub mod FailLaws
+pub mod ExceptionLaws
+pub mod SeamLocalLaws
+pub mod CheckLaws
+pub mod EntryGroupLaws
+pub mod RequiresLaws
+pub mod LiftedRetLaws
+pub mod UntouchedLaws
+pub mod DepthLaws
+pub mod HelperLaws

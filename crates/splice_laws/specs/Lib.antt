@@ -1,0 +1,6 @@
+pub mod Straight
+pub mod Helpers
+pub mod Fails
+pub mod HelperRuns
+pub mod EntryCode
+pub mod RequiresOnly

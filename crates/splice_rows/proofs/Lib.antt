@@ -1,0 +1,2 @@
+pub mod OneRequiresCode
+pub mod OneRequiresLaws
