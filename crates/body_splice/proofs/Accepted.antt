@@ -35,5 +35,5 @@ unread bytes r (inl first) = inl first
 unread bytes r (inr behind) = inr (behind.0, inl behind.1)
 
 -- no token of locals is too large where there is none
-pub no_locals : {P : Token → Type 0} {o : Option Token} → o ≡ None → IfSome o P
-no_locals {P} {o} e = subst (λ (x : Option Token). IfSome x P) (sym e) tt
+pub no_locals : (P : Token → Type 0) (o : Option Token) → o ≡ None → IfSome o P
+no_locals P o e = subst (λ (x : Option Token). IfSome x P) (sym e) tt

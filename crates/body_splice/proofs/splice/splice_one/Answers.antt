@@ -1,5 +1,7 @@
-use Rattle.std.proofs.Common.{◌≡◌, ◌<◌, ◌∙◌, ap, sym, subst, None, Some, length, arith, rules}
+use Rattle.std.proofs.Common.{◌≡◌, List, ◌<◌, ◌∙◌, ap, sym, subst, None, Some, length, arith, rules}
 use Rattle.cil_base.specs.Refusals.{First, refusal}
+use Rattle.cil_model.specs.declared.body.Region.{Region}
+use Rattle.cil_model.specs.ValidBody.{AllValidRegions}
 use Rattle.il_code.proofs.SmallLaws.{small_plain, small_few}
 use Rattle.body_splice.specs.Splice.{rewritten, call_fault, CallBreaks}
 use Rattle.body_splice.proofs.Same.{same_body, rewritten_writable, IsWritable}
@@ -22,21 +24,27 @@ returns-clause-same c =
     let accepted : call_fault c.args.body.now.instrs ≡ None = search rules in
     same_body c.args.place.assembly c.args.body.now _ (small_plain c.args.place.assembly c.requires.0 c.args.body.now c.requires.1) new accepted
 
-writable : (c : goal.After-rewritten_instrs) → IsWritable c.args.place.assembly c.args.body.now.instrs c.in_ok-instrs.instrs
-writable c =
-    let new = c.in_ok-instrs.ensures ∙ ap (rewritten c.args.place.assembly) c.as_slice-2.ensures in
-    rewritten_writable c.args.place.assembly c.args.body.now.instrs c.in_ok-instrs.instrs (small_plain c.args.place.assembly c.requires.0 c.args.body.now c.requires.1) c.requires.2.instrs new
-
 pub returns-clause-valid : goal.returns-clause-valid
-returns-clause-valid c = record { instrs = (writable c).valid; regions = tt; locals = c.requires.2.locals }
+returns-clause-valid c =
+    let new = c.in_ok-instrs.ensures ∙ ap (rewritten c.args.place.assembly) c.as_slice-2.ensures in
+    let all : IsWritable c.args.place.assembly c.args.body.now.instrs c.in_ok-instrs.instrs =
+    rewritten_writable c.args.place.assembly c.args.body.now.instrs c.in_ok-instrs.instrs (small_plain c.args.place.assembly c.requires.0 c.args.body.now c.requires.1) c.requires.2.instrs new in
+    record { instrs = all.valid; regions = subst (λ (rs : List Region). AllValidRegions (length c.in_ok-instrs.instrs) rs) (sym c.new-2.ensures) tt; locals = c.requires.2.locals }
 
 pub returns-clause-few : goal.returns-clause-few
 returns-clause-few c =
+    let new = c.in_ok-instrs.ensures ∙ ap (rewritten c.args.place.assembly) c.as_slice-2.ensures in
+    let all : IsWritable c.args.place.assembly c.args.body.now.instrs c.in_ok-instrs.instrs =
+    rewritten_writable c.args.place.assembly c.args.body.now.instrs c.in_ok-instrs.instrs (small_plain c.args.place.assembly c.requires.0 c.args.body.now c.requires.1) c.requires.2.instrs new in
     let few : length c.args.body.now.instrs < 64 = small_few c.args.place.assembly c.requires.0 c.args.body.now c.requires.1 in
-    omega (arith, (writable c).few)
+    omega (arith, all.few)
 
 pub returns-clause-bare : goal.returns-clause-bare
-returns-clause-bare c = (writable c).bare
+returns-clause-bare c =
+    let new = c.in_ok-instrs.ensures ∙ ap (rewritten c.args.place.assembly) c.as_slice-2.ensures in
+    let all : IsWritable c.args.place.assembly c.args.body.now.instrs c.in_ok-instrs.instrs =
+    rewritten_writable c.args.place.assembly c.args.body.now.instrs c.in_ok-instrs.instrs (small_plain c.args.place.assembly c.requires.0 c.args.body.now c.requires.1) c.requires.2.instrs new in
+    all.bare
 
 pub returns-clause-instrs : goal.returns-clause-instrs
 returns-clause-instrs c = c.in_ok-instrs.ensures ∙ ap (rewritten c.args.place.assembly) c.as_slice-2.ensures
