@@ -7,4 +7,3 @@ pub mod Input
 pub mod Spliced
 pub mod Acting
 pub mod Related
-pub mod KeepsProgram

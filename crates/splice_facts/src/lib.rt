@@ -6,15 +6,7 @@ ghost use Rattle.cil_model.specs.declared.contract.Contracts.{Contracts};
 ghost use Rattle.cil_model.specs.declared.program.MethodDesc.{MethodDesc};
 ghost use Rattle.cil_model.specs.declared.program.Program.{Program};
 ghost use Rattle.cil_semantics.specs.Checks.{AddedNumbers};
-ghost use Rattle.machine_laws.specs.Same.{KeepsIdentities};
-ghost use Rattle.splice_facts.specs.KeepsProgram.{Extends};
 ghost use Rattle.splice_facts.specs.Related.{Rewritten, SeamsThrow};
-
-/// What a grown program keeps has the identities that same behaviour compares by.
-#[tactic(auto, using(crate::proofs::IdentityLaws::identities))]
-pub fn grown_programs_keep_identities()
-    ensures { (p q : Program) → Extends p q → KeepsIdentities p q }
-{}
 
 /// A check of Requires<E> makes its exception at a place from where it is thrown.
 #[tactic(auto, using(crate::proofs::ThrowLaws::seam_throws))]

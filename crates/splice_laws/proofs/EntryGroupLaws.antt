@@ -206,8 +206,8 @@ module _ (p : Program) (k : Contracts) (p' : Program) (g : AddedNumbers) (n : �
           W : World
           W = beside ss w
 
-          W2 : World
-          W2 = with_depth depths.owner (w.depth + 1) W
+          V : World
+          V = with_depth depths.owner (w.depth + 1) W
 
           asked : (t : Bool) → runs_at plan group.Entry w.depth ≡ t → nat_le w.depth k.settings.guard ≡ t
           asked t q = ap (λ (z : Rattle.cil_model.specs.declared.contract.Settings.Settings). nat_le w.depth z.guard) (sym settings) ∙ q
@@ -220,7 +220,7 @@ module _ (p : Program) (k : Contracts) (p' : Program) (g : AddedNumbers) (n : �
               record {
                 extra = ex;
                 keeps = s.keeps;
-                statics = W2.statics;
+                statics = V.statics;
                 beside = record {
                   statics = others_set depths.owner n (w.depth + 1) W depths.appended ∙ (s.beside).statics;
                   depth = depth_set depths.owner w.depth (w.depth + 1) W (s.beside).depth;
@@ -228,9 +228,9 @@ module _ (p : Program) (k : Contracts) (p' : Program) (g : AddedNumbers) (n : �
                 };
                 comes = comes_within p' (10 + 1) (cost k p) _ _ (omega (arith, many))
                     (comes_on p' 10 1 _ _ _ (asks f fs fs' w ex ss b true a s (asked true q))
-                    (one_step p' F (pushed (I4 (pos 1)) l0) (D + 1) [] fs' W2 0 _ _
-                    (goes_one p' F (pushed (I4 (pos 1)) l0) l0 (D + 1) [] fs' W2 (brfalse R) (at_me F (D + 1) _ a (e.opens.1).0) (tests_brfalse p' (here_of F fs') R (I4 (pos 1)) l0.stack l0 true truth_of_one) refl)
-                    (comes_at_once p' 0 _ _ (ap (λ z. at_place F l0 z [] fs' W2) (two ∙ sym e.first_here)))));
+                    (one_step p' F (pushed (I4 (pos 1)) l0) (D + 1) [] fs' V 0 _ _
+                    (goes_one p' F (pushed (I4 (pos 1)) l0) l0 (D + 1) [] fs' V (brfalse R) (at_me F (D + 1) _ a (e.opens.1).0) (tests_brfalse p' (here_of F fs') R (I4 (pos 1)) l0.stack l0 true truth_of_one) refl)
+                    (comes_at_once p' 0 _ _ (ap (λ z. at_place F l0 z [] fs' V) (two ∙ sym e.first_here)))));
               }
           by_test false q =
               record {
@@ -311,20 +311,20 @@ module _ (p : Program) (k : Contracts) (p' : Program) (g : AddedNumbers) (n : �
               }
           by_piece None q =
               let h : Handling = record { handler = v; cause = Leaving R; place = B; next = v + 1 } in
-              let W2 : World = with_depth depths.owner (w.depth - 1) W in
+              let V : World = with_depth depths.owner (w.depth - 1) W in
               let dlo : D ≤ B = omega (arith, lo) in
               let dhi : B < H + 2 = omega (arith, hi) in
               record {
                 extra = ex;
                 keeps = emptied f fs ex s.keeps;
-                statics = W2.statics;
+                statics = V.statics;
                 beside = low_beside f fs fs' w ex ss s;
                 comes = comes_within p' (1 + (6 + 1)) (cost k p) _ _ (omega (arith, many))
                     (one_step p' F (grow ex f.local) B [] fs' W (6 + 1) _ _
                     (leaves_into p' F (grow ex f.local) B R v own [] fs' W (at_me F B _ a (e.over j x there q)) (through F B R a dlo dhi (goes_out (in_try own B) (in_try own R) (in_own B lo hi) (behind_own R (omega (arith, e.room.1))))) (stays_in F H h a refl (omega arith) (omega arith)))
                     (comes_on p' 6 1 _ _ _ (lowers f fs fs' w ex ss b h a refl some s)
-                    (one_step p' F l0 (H + 1) (h ∷ []) fs' W2 0 _ _
-                    (ends_leaving p' F l0 (H + 1) B R v (v + 1) [] fs' W2 (at_me F (H + 1) _ a (e.lowers.1).0) (then_none F B R a dlo dhi) refl)
+                    (one_step p' F l0 (H + 1) (h ∷ []) fs' V 0 _ _
+                    (ends_leaving p' F l0 (H + 1) B R v (v + 1) [] fs' V (at_me F (H + 1) _ a (e.lowers.1).0) (then_none F B R a dlo dhi) refl)
                     (comes_at_once p' 0 _ _ refl))));
               }
 
@@ -335,16 +335,16 @@ module _ (p : Program) (k : Contracts) (p' : Program) (g : AddedNumbers) (n : �
           let F : Frame = base f b in
           let l0 = grow ex (with_stack f.local []) in
           let W : World = beside ss w in
-          let W2 : World = with_depth depths.owner (w.depth - 1) W in
+          let V : World = with_depth depths.owner (w.depth - 1) W in
           let h : Handling = record { handler = v; cause = Unwinding x; place = q'; next = v + 1 } in
           let i = e.belongs_in j q q' (subst (λ z. IsTrue (m.belongs z q')) at bel) in (
-            W2.statics,
+            V.statics,
             low_beside f fs fs' w ex ss s,
             comes_within p' (6 + 1) (cost k p) _ _ (omega (arith, many))
-                (subst (λ y. Comes p' (6 + 1) y (leaves_with p k p' g n depths f b fs' (lowered w) W2.statics x))
+                (subst (λ y. Comes p' (6 + 1) y (leaves_with p k p' g n depths f b fs' (lowered w) V.statics x))
                 (sym (throws_into p' F (grow ex f.local) q' x v H fs' W (λ fits. taken fits F q' a i.0 i.1) (stays_in F H h a refl (omega arith) (omega arith))))
                 (comes_on p' 6 1 _ _ _ (lowers f fs fs' w ex ss b h a refl some s)
-                (one_step p' F l0 (H + 1) (h ∷ []) fs' W2 0 _ _
-                (ends_throwing p' F l0 (H + 1) q' x v (v + 1) [] fs' W2 (at_me F (H + 1) _ a (e.lowers.1).0) (λ fits. no_more fits F q' a i.0 i.1))
+                (one_step p' F l0 (H + 1) (h ∷ []) fs' V 0 _ _
+                (ends_throwing p' F l0 (H + 1) q' x v (v + 1) [] fs' V (at_me F (H + 1) _ a (e.lowers.1).0) (λ fits. no_more fits F q' a i.0 i.1))
                 (comes_at_once p' 0 _ _ refl)))),
           )
