@@ -325,22 +325,22 @@ module _ (p : Program) (g : AddedNumbers) (c a : ℕ) (tok : Token) (h : HasExce
         let here : Here = here_of M FS in
         let s1 = with_stack m0 (Obj n ∷ []) in
         let W0 : World = with_object p first_object w in
-        let W1 : World = with_object p o1 w in
-        let W2 : World = with_object p o2 w in
-        let W3 : World = with_object p (contract_failure g x) w in
+        let V1 : World = with_object p o1 w in
+        let V2 : World = with_object p o2 w in
+        let V3 : World = with_object p (contract_failure g x) w in
         one_step p f L q [] fs w 12 _ _ begins
         (one_step p M m0 0 [] FS W0 11 _ _ (goes_one p M m0 s1 0 [] FS W0 (ldarg 0) (at_code 0 _ refl) (does_ldarg p here 0 (cell T (Obj n)) m0 refl) refl)
         (one_step p M s1 1 [] FS W0 10 _ _ (based W0)
         (one_step p M m0 2 [] FS W0 9 _ _ (goes_one p M m0 s1 2 [] FS W0 (ldarg 0) (at_code 2 _ refl) (does_ldarg p here 0 (cell T (Obj n)) m0 refl) refl)
         (one_step p M s1 3 [] FS W0 8 _ _ (goes_one p M s1 (with_stack m0 (number_value x ∷ Obj n ∷ [])) 3 [] FS W0 (ldarg 1) (at_code 3 _ refl) (does_ldarg p here 1 (cell int32 (number_value x)) s1 refl) refl)
         (one_step p M (with_stack m0 (number_value x ∷ Obj n ∷ [])) 4 [] FS W0 7 _ _ (stores_new M m0 [] 4 FS w first_object o1.cells (number_value x) 0 _ h.kind (at_code 4 _ refl) h.kind_token (h.places.0).0 (set_one int32 (number_value x) 0 (cell int32 (I4 (pos 0))) first_object.cells kd_stored refl refl) (ap is_reference holds_T) refl)
-        (one_step p M m0 5 [] FS W1 6 _ _ (goes_one p M m0 s1 5 [] FS W1 (ldarg 0) (at_code 5 _ refl) (does_ldarg p here 0 (cell T (Obj n)) m0 refl) refl)
-        (one_step p M s1 6 [] FS W1 5 _ _ (goes_one p M s1 (with_stack m0 (x.user ∷ Obj n ∷ [])) 6 [] FS W1 (ldarg 2) (at_code 6 _ refl) (does_ldarg p here 2 (cell string_ty x.user) s1 refl) refl)
-        (one_step p M (with_stack m0 (x.user ∷ Obj n ∷ [])) 7 [] FS W1 4 _ _ (stores_new M m0 [] 7 FS w o1 o2.cells x.user 1 _ h.user (at_code 7 _ refl) h.user_token (h.places.0).1 (set_one string_ty x.user 1 (cell string_ty Null) o1.cells user_stored refl refl) (ap is_reference holds_T) refl)
-        (one_step p M m0 8 [] FS W2 3 _ _ (goes_one p M m0 s1 8 [] FS W2 (ldarg 0) (at_code 8 _ refl) (does_ldarg p here 0 (cell T (Obj n)) m0 refl) refl)
-        (one_step p M s1 9 [] FS W2 2 _ _ (goes_one p M s1 (with_stack m0 (label_text x ∷ Obj n ∷ [])) 9 [] FS W2 (ldarg 3) (at_code 9 _ refl) (does_ldarg p here 3 (cell string_ty (label_text x)) s1 refl) refl)
-        (one_step p M (with_stack m0 (label_text x ∷ Obj n ∷ [])) 10 [] FS W2 1 _ _ (stores_new M m0 [] 10 FS w o2 (contract_failure g x).cells (label_text x) 2 _ h.label (at_code 10 _ refl) h.label_token h.places.1 (set_one string_ty (label_text x) 2 (cell string_ty Null) o2.cells label_stored refl refl) (ap is_reference holds_T) refl)
-        (one_step p M m0 11 [] FS W3 0 _ _ (ends W3)
+        (one_step p M m0 5 [] FS V1 6 _ _ (goes_one p M m0 s1 5 [] FS V1 (ldarg 0) (at_code 5 _ refl) (does_ldarg p here 0 (cell T (Obj n)) m0 refl) refl)
+        (one_step p M s1 6 [] FS V1 5 _ _ (goes_one p M s1 (with_stack m0 (x.user ∷ Obj n ∷ [])) 6 [] FS V1 (ldarg 2) (at_code 6 _ refl) (does_ldarg p here 2 (cell string_ty x.user) s1 refl) refl)
+        (one_step p M (with_stack m0 (x.user ∷ Obj n ∷ [])) 7 [] FS V1 4 _ _ (stores_new M m0 [] 7 FS w o1 o2.cells x.user 1 _ h.user (at_code 7 _ refl) h.user_token (h.places.0).1 (set_one string_ty x.user 1 (cell string_ty Null) o1.cells user_stored refl refl) (ap is_reference holds_T) refl)
+        (one_step p M m0 8 [] FS V2 3 _ _ (goes_one p M m0 s1 8 [] FS V2 (ldarg 0) (at_code 8 _ refl) (does_ldarg p here 0 (cell T (Obj n)) m0 refl) refl)
+        (one_step p M s1 9 [] FS V2 2 _ _ (goes_one p M s1 (with_stack m0 (label_text x ∷ Obj n ∷ [])) 9 [] FS V2 (ldarg 3) (at_code 9 _ refl) (does_ldarg p here 3 (cell string_ty (label_text x)) s1 refl) refl)
+        (one_step p M (with_stack m0 (label_text x ∷ Obj n ∷ [])) 10 [] FS V2 1 _ _ (stores_new M m0 [] 10 FS w o2 (contract_failure g x).cells (label_text x) 2 _ h.label (at_code 10 _ refl) h.label_token h.places.1 (set_one string_ty (label_text x) 2 (cell string_ty Null) o2.cells label_stored refl refl) (ap is_reference holds_T) refl)
+        (one_step p M m0 11 [] FS V3 0 _ _ (ends V3)
         (comes_at_once p 0 _ _ refl)))))))))))))
 
   pub makes_failure : MakesFailure p g c a tok
