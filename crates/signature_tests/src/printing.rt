@@ -91,13 +91,13 @@ fn what_was_read_is_printed_as_it_was(rt: HostRuntime) {
             ],
         ),
     ];
-    let mut count = 0;
+    let mut wrong = 0usize;
     for (kind, blob) in rows.iter() {
-        if prints(alloc, *kind, blob, blob) {
-            count += 1;
+        if !prints(alloc, *kind, blob, blob) {
+            wrong = wrong.saturating_add(1);
         }
     }
-    assert_eq!(rt; count, 9);
+    assert_eq!(rt; wrong, 0);
 }
 
 #[test]
