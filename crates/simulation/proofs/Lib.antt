@@ -1,0 +1,11 @@
+pub mod ProgramLaws
+pub mod ActLaws
+pub mod ArriveLaws
+pub mod UnwindLaws
+pub mod PushLaws
+pub mod PointerLaws
+pub mod EnterLaws
+pub mod PerformLaws
+pub mod ReturnLaws
+pub mod StepLaws
+pub mod RetLaws
