@@ -9,3 +9,7 @@ pub mod PerformLaws
 pub mod ReturnLaws
 pub mod StepLaws
 pub mod RetLaws
+pub mod OutsideLaws
+pub mod CheckLaws
+pub mod ClauseLaws
+pub mod CallLaws
