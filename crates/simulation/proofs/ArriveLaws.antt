@@ -271,3 +271,8 @@ module _ (p : Program) (k : Contracts) (ms : List MethodDesc) (g : AddedNumbers)
     where
       entered : Next
       entered = begin_entry p c (with_local l h) fs w
+
+  -- the same by the method's own plan
+  pub arrives_alike : (h : Frame) (at : ProgramPoint) (l l0 : Local) (ex : List Cell) (hs hs' hs0 : List Handling) (q0 : ℕ) (b : Continuation) (fs fs' : List Frame) (w : World) (ss : List Statics) → h.method < r.methods → CanArrive (plan h.method) at → Pairs.FitsAt Fits at h.thrown → Keeps (mk h.method) (here_of h fs) h.thrown l ex → Waits (plan h.method) (mk h.method) (rows h.method) at hs hs' → IsBeside w ss → length fs' ≡ length fs → w.depth ≤ suc k.settings.guard → below h.continuation b fs fs'
+      → To (cst + lay (suc (length fs))) (arrive_in p (plan h.method) h at l hs fs w) (goes_at p' (tw h l0 ex q0 hs0 b) (Rest ((mk h.method).places at)) (grow ex l) hs' fs' (beside ss w))
+  arrives_alike h at l l0 ex hs hs' hs0 q0 b fs fs' w ss old can fits keeps pairs bes numbers deep under = arrives (plan h.method) h at l l0 ex hs hs' hs0 q0 b fs fs' w ss refl old can fits keeps pairs bes numbers deep under

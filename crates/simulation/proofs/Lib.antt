@@ -3,13 +3,3 @@ pub mod ActLaws
 pub mod ArriveLaws
 pub mod UnwindLaws
 pub mod PushLaws
-pub mod PointerLaws
-pub mod EnterLaws
-pub mod PerformLaws
-pub mod ReturnLaws
-pub mod StepLaws
-pub mod RetLaws
-pub mod OutsideLaws
-pub mod CheckLaws
-pub mod ClauseLaws
-pub mod CallLaws

@@ -44,7 +44,7 @@ use Rattle.splice_facts.proofs.ComesLaws.{no_plan, arrives_plain}
 use Rattle.simulation.proofs.ArriveLaws as Arriving
 use Rattle.simulation.proofs.UnwindLaws as Unwinding
 use Rattle.simulation.proofs.UnwindLaws.{as_many, unwinds, find_beside, set_beside}
-use Rattle.simulation.proofs.PointerLaws as Pointing
+use Rattle.simulation_steps.proofs.PointerLaws as Pointing
 
 first_append : (p : Program) (ts us : List Ty) → default_cells p (ts ++ us) ≡ default_cells p ts ++ default_cells p us
 first_append p [] us = refl

@@ -32,6 +32,7 @@ use Rattle.splice_facts.specs.WellFormed.{WellFormedPointer}
 use Rattle.splice_facts.specs.Acting.{KeepsPlaces}
 use Rattle.splice_facts.specs.Related.{Rewritten, FramePair, Under, ValidFrame, ValidFrames}
 use Rattle.splice_facts.specs.Related as Pairs
+use Rattle.simulation_steps.specs.Steps as Steps
 use Rattle.simulation.proofs.ProgramLaws.{fun_ext, write_cell_same, default_cells_same}
 use Rattle.simulation.proofs.ActLaws.{get_left}
 use Rattle.simulation.proofs.UnwindLaws as Unwinding
@@ -139,6 +140,9 @@ module _ (p : Program) (k : Contracts) (ms : List MethodDesc) (g : AddedNumbers)
   reads fs fs' w ss (Inside o is) fine ok t bes = refl
   reads fs fs' w ss (Static t1 f1 is) fine ok t bes = ap (λ cs. cell_in cs (static_path p t1 f1 is)) (static_cells_same w ss t1 fine bes)
 
+  pub reads_alike : (b b' : Continuation) (fs fs' : List Frame) (w : World) (ss : List Statics) (q : Pointer) → WellFormedPointer (Pairs.bounds p k ms g r) q → below b b' fs fs' → valid fs → IsBeside w ss → read p' fs' (beside ss w) q ≡ read p fs w q
+  reads_alike b b' fs fs' w ss q fine under ok bes = reads fs fs' w ss q fine ok (twins b b' fs fs' under) bes
+
   -- ---- storing
 
   -- a change of a frame's places is the same change of its twin's
@@ -228,13 +232,7 @@ module _ (p : Program) (k : Contracts) (ms : List MethodDesc) (g : AddedNumbers)
       (λ gs gs' u e. Under.throws x q h h' gs gs' (pair_over _ h h' hs gs e pair) here t u)
       (framed h.continuation h'.continuation hs hs' n m go go' under ok.1 ch)
 
-  -- a store through a pointer leaves frames with their twins
-  abbrev pub Stored : Continuation → Continuation → (n c : ℕ) → World → Option (List Frame × World) → Option (List Frame × World) → Type 0
-  Stored b b' n c w None None = Unit {0}
-  Stored b b' n c w (Some x) (Some x') = below b b' x.0 x'.0 × valid x.0 × (ss : List Statics) × IsBeside x.1 ss × (x'.1 ≡ beside ss x.1) × (x.1.depth ≡ w.depth) × (length x.0 ≡ n) × (Pairs.count_groups x.0 ≡ c)
-  Stored b b' n c w o o' = ⊥
-
-  by_frames : (b b' : Continuation) (w : World) (ss : List Statics) (n c : ℕ) (o o' : Option (List Frame)) → IsBeside w ss → Changed b b' n c o o' → Stored b b' n c w (option_map (λ gs. (gs, w)) o) (option_map (λ gs. (gs, beside ss w)) o')
+  by_frames : (b b' : Continuation) (w : World) (ss : List Statics) (n c : ℕ) (o o' : Option (List Frame)) → IsBeside w ss → Changed b b' n c o o' → Steps.Stored p k ms g r b b' n c w (option_map (λ gs. (gs, w)) o) (option_map (λ gs. (gs, beside ss w)) o')
   by_frames b b' w ss n c None None bes z = tt
   by_frames b b' w ss n c (Some gs) (Some gs') bes z = (z.0, z.1, ss, bes, refl, refl, z.2, z.3)
   by_frames b b' w ss n c None (Some gs') bes z = absurd z
@@ -291,24 +289,24 @@ module _ (p : Program) (k : Contracts) (ms : List MethodDesc) (g : AddedNumbers)
   object_keeps zero cs w ss bes = (bes, refl)
   object_keeps (suc k1) cs w ss bes = (record { statics = bes.statics; depth = bes.depth; bare = bes.bare }, refl)
 
-  pub writes : (b b' : Continuation) (fs fs' : List Frame) (w : World) (ss : List Statics) (q : Pointer) (v : Value) → WellFormedPointer (Pairs.bounds p k ms g r) q → below b b' fs fs' → valid fs → IsBeside w ss → Stored b b' (length fs) (Pairs.count_groups fs) w (write p fs w q v) (write p' fs' (beside ss w) q v)
+  pub writes : (b b' : Continuation) (fs fs' : List Frame) (w : World) (ss : List Statics) (q : Pointer) (v : Value) → WellFormedPointer (Pairs.bounds p k ms g r) q → below b b' fs fs' → valid fs → IsBeside w ss → Steps.Stored p k ms g r b b' (length fs) (Pairs.count_groups fs) w (write p fs w q v) (write p' fs' (beside ss w) q v)
   writes b b' fs fs' w ss (Arg n m i is) v fine u ok bes = by_frames b b' w ss (length fs) (Pairs.count_groups fs) _ _ bes (framed b b' fs fs' n m _ _ u ok (args_change m (i ∷ is) v))
   writes b b' fs fs' w ss (Local n m i is) v fine u ok bes = by_frames b b' w ss (length fs) (Pairs.count_groups fs) _ _ bes (framed b b' fs fs' n m _ _ u ok (locals_change m i is v fine))
   writes b b' fs fs' w ss (Inside k1 is) v fine u ok bes = by_object (object_at w k1)
     where
-      by_cells : (o : Option (List Cell)) → Stored b b' (length fs) (Pairs.count_groups fs) w (option_map (λ cs. (fs, set_object w k1 cs)) o) (option_map (λ cs. (fs', set_object (beside ss w) k1 cs)) o)
+      by_cells : (o : Option (List Cell)) → Steps.Stored p k ms g r b b' (length fs) (Pairs.count_groups fs) w (option_map (λ cs. (fs, set_object w k1 cs)) o) (option_map (λ cs. (fs', set_object (beside ss w) k1 cs)) o)
       by_cells None = tt
       by_cells (Some cs) = let kk = object_keeps k1 cs w ss bes in (u, ok, ss, kk.0, object_beside k1 cs w ss, kk.1, refl, refl)
 
-      by_object : (o : Option Object) → Stored b b' (length fs) (Pairs.count_groups fs) w (option_and_then (λ (x : Object). option_map (λ cs. (fs, set_object w k1 cs)) (set_in p is v x.cells)) o) (option_and_then (λ (x : Object). option_map (λ cs. (fs', set_object (beside ss w) k1 cs)) (set_in p' is v x.cells)) o)
+      by_object : (o : Option Object) → Steps.Stored p k ms g r b b' (length fs) (Pairs.count_groups fs) w (option_and_then (λ (x : Object). option_map (λ cs. (fs, set_object w k1 cs)) (set_in p is v x.cells)) o) (option_and_then (λ (x : Object). option_map (λ cs. (fs', set_object (beside ss w) k1 cs)) (set_in p' is v x.cells)) o)
       by_object None = tt
       by_object (Some x) =
-          subst (λ z. Stored b b' (length fs) (Pairs.count_groups fs) w (option_map (λ cs. (fs, set_object w k1 cs)) (set_in p is v x.cells)) (option_map (λ cs. (fs', set_object (beside ss w) k1 cs)) z)) (sym (set_in_same p ms is v x.cells)) (by_cells (set_in p is v x.cells))
+          subst (λ z. Steps.Stored p k ms g r b b' (length fs) (Pairs.count_groups fs) w (option_map (λ cs. (fs, set_object w k1 cs)) (set_in p is v x.cells)) (option_map (λ cs. (fs', set_object (beside ss w) k1 cs)) z)) (sym (set_in_same p ms is v x.cells)) (by_cells (set_in p is v x.cells))
   writes b b' fs fs' w ss (Static t f1 is) v fine u ok bes =
-      subst (λ z. Stored b b' (length fs) (Pairs.count_groups fs) w (option_map (λ cs. (fs, set_static w t cs)) (set_in p (static_path p t f1 is) v (static_cells p w t))) (option_map (λ cs. (fs', set_static (beside ss w) t cs)) z))
+      subst (λ z. Steps.Stored p k ms g r b b' (length fs) (Pairs.count_groups fs) w (option_map (λ cs. (fs, set_static w t cs)) (set_in p (static_path p t f1 is) v (static_cells p w t))) (option_map (λ cs. (fs', set_static (beside ss w) t cs)) z))
       (sym (set_in_same p ms (static_path p t f1 is) v (static_cells p' (beside ss w) t) ∙ ap (set_in p (static_path p t f1 is) v) (static_cells_same w ss t fine bes)))
       (by_cells (set_in p (static_path p t f1 is) v (static_cells p w t)))
     where
-      by_cells : (o : Option (List Cell)) → Stored b b' (length fs) (Pairs.count_groups fs) w (option_map (λ cs. (fs, set_static w t cs)) o) (option_map (λ cs. (fs', set_static (beside ss w) t cs)) o)
+      by_cells : (o : Option (List Cell)) → Steps.Stored p k ms g r b b' (length fs) (Pairs.count_groups fs) w (option_map (λ cs. (fs, set_static w t cs)) o) (option_map (λ cs. (fs', set_static (beside ss w) t cs)) o)
       by_cells None = tt
       by_cells (Some cs) = (u, ok, set_statics (same_ty t) (statics_of t cs (find_statics t ss)) ss, static_beside t cs w ss fine bes, refl, refl, refl, refl)

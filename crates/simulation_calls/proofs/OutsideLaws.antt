@@ -33,10 +33,11 @@ use Rattle.splice_facts.specs.Grown.{grow, beside}
 use Rattle.splice_facts.specs.WellFormed.{WellFormedPointer}
 use Rattle.splice_facts.specs.Related.{Rewritten, Under}
 use Rattle.splice_facts.specs.Related as Pairs
+use Rattle.simulation_steps.specs.Steps as Steps
 use Rattle.simulation.proofs.ProgramLaws.{fun_ext, storage_same, stored_in_same, field_types_same, sub_same, with_object_same}
 use Rattle.simulation.proofs.UnwindLaws as Unwinding
-use Rattle.simulation.proofs.PointerLaws as Pointing
-use Rattle.simulation.proofs.EnterLaws as Entering
+use Rattle.simulation_steps.proofs.PointerLaws as Pointing
+use Rattle.simulation_steps.proofs.EnterLaws as Entering
 
 module _ (p : Program) (ms : List MethodDesc) where
   refers_same : (w : World) (ss : List Statics) (t : Ty) (v : Value-F Value) → refers_to (with_methods p ms) (beside ss w) t v ≡ refers_to p w t v
@@ -110,7 +111,7 @@ module _ (p : Program) (k : Contracts) (ms : List MethodDesc) (g : AddedNumbers)
   FineRefs [] = Unit {0}
   FineRefs (a ∷ rest) = ((q : Pointer) → pointer_in (out-Value a.1) ≡ Some q → WellFormedPointer (Pairs.bounds p k ms g r) q) × FineRefs rest
 
-  from_stored : (b b' : Continuation) (n c d : ℕ) (w : World) (o o' : Option (List Frame × World)) → w.depth ≡ d → Pointing.Stored p k ms g r b b' n c w o o' → BothIf b b' n c d o o'
+  from_stored : (b b' : Continuation) (n c d : ℕ) (w : World) (o o' : Option (List Frame × World)) → w.depth ≡ d → Steps.Stored p k ms g r b b' n c w o o' → BothIf b b' n c d o o'
   from_stored b b' n c d w None None e s = tt
   from_stored b b' n c d w (Some x) (Some x') e s = record { under = s.0; others = s.1; many = s.6; groups = s.7; statics = s.2; alike = s.3; world = s.4; depth = s.5 ∙ e }
   from_stored b b' n c d w None (Some x') e s = absurd s

@@ -60,10 +60,10 @@ use Rattle.splice_facts.proofs.ComesLaws.{no_plan}
 use Rattle.simulation.proofs.ArriveLaws as Arriving
 use Rattle.simulation.proofs.UnwindLaws as Unwinding
 use Rattle.simulation.proofs.UnwindLaws.{as_many}
-use Rattle.simulation.proofs.PerformLaws as Performing
-use Rattle.simulation.proofs.EnterLaws as Entering
-use Rattle.simulation.proofs.ReturnLaws as Returning
-use Rattle.simulation.proofs.PointerLaws as Pointing
+use Rattle.simulation_steps.proofs.PerformLaws as Performing
+use Rattle.simulation_steps.proofs.EnterLaws as Entering
+use Rattle.simulation_steps.proofs.ReturnLaws as Returning
+use Rattle.simulation_steps.proofs.PointerLaws as Pointing
 
 -- as in GrowthLaws of cil_semantics, which other crates can't name
 recorded_twice : (before t : List Item) (x : Next) → goes_after (before ++ t) x ≡ goes_after before (goes_after t x)

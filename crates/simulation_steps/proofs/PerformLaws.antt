@@ -47,14 +47,15 @@ use Rattle.splice_facts.specs.Acting.{KeepsPlaces}
 use Rattle.splice_facts.specs.Layout.{Marks, Keeps, IsHere, CanArrive, Onward}
 use Rattle.splice_facts.specs.Related.{Rewritten, HandlingPair, HandlingPairs, Waits, FramePair, Under, Frames, Related, laid_by, count_groups, in_group}
 use Rattle.splice_facts.specs.Related as Pairs
+use Rattle.simulation_steps.specs.Steps as Steps
 use Rattle.splice_facts.proofs.ComesLaws.{no_plan, arrives_plain}
 use Rattle.simulation.proofs.ArriveLaws as Arriving
 use Rattle.simulation.proofs.UnwindLaws as Unwinding
 use Rattle.simulation.proofs.UnwindLaws.{as_many, begun, unwinds}
 use Rattle.simulation.proofs.PushLaws as Pushing
 use Rattle.simulation.proofs.PushLaws.{stale_arrive, moves, pushes}
-use Rattle.simulation.proofs.PointerLaws as Pointing
-use Rattle.simulation.proofs.PointerLaws.{reads, writes, twins, pair_changed, stands_changed}
+use Rattle.simulation_steps.proofs.PointerLaws as Pointing
+use Rattle.simulation_steps.proofs.PointerLaws.{reads, writes, twins, pair_changed, stands_changed}
 
 -- going on is pushing nothing, or a value, in the frame itself
 pub go_as_push : (p : Program) (k : Contracts) (f : Frame) (v : Option Value) (l : Local) (fs : List Frame) (w : World) → go_on p k f (maybe l (λ x. pushed x l) v) fs w ≡ push_below p k v (record f { local = l } ∷ fs) w
@@ -129,7 +130,7 @@ module _ (p : Program) (k : Contracts) (ms : List MethodDesc) (g : AddedNumbers)
   tops (h ∷ hs) [] w ss n u ok bes deep le = let e : 0 ≡ suc (length hs) = as_many p k ms g r Push Push (h ∷ hs) [] u in absurd (omega (arith, e))
   tops (h ∷ hs) (h' ∷ hs') w ss n u ok bes deep le = Unwinding.reach_within p k ms g r (cst + lay (suc (length hs))) n _ _ le (pushes p k ms g r Push Push None (h ∷ hs) (h' ∷ hs') w ss tt u ok bes deep)
 
-  stores_by : (n m c : ℕ) (w : World) (ss : List Statics) (o o' : Option (List Frame × World)) → IsBeside w ss → w.depth ≤ suc k.settings.guard → cst + lay m ≤ n → Pointing.Stored p k ms g r Push Push m c w o o'
+  stores_by : (n m c : ℕ) (w : World) (ss : List Statics) (o o' : Option (List Frame × World)) → IsBeside w ss → w.depth ≤ suc k.settings.guard → cst + lay m ≤ n → Steps.Stored p k ms g r Push Push m c w o o'
       → To n (if_there o w (λ (x : List Frame × World). go_on_top p k x.0 x.1)) (if_there o' (beside ss w) (λ (x : List Frame × World). go_on_top p' no_contracts x.0 x.1))
   stores_by n m c w ss None None bes deep le s = Arriving.stuck_both p k ms g r n w ss bes
   stores_by n m c w ss None (Some x') bes deep le s = absurd s

@@ -37,12 +37,13 @@ use Rattle.splice_facts.specs.Spliced.{checking}
 use Rattle.splice_facts.specs.Spliced.{Paired, clause_failure, from_here, Checked, failure_cost, twin}
 use Rattle.splice_facts.specs.Related.{Rewritten, Under, FramePair, Waits, count_groups, in_group}
 use Rattle.splice_facts.specs.Related as Pairs
+use Rattle.simulation_steps.specs.Steps as Steps
 use Rattle.simulation.proofs.ArriveLaws as Arriving
 use Rattle.simulation.proofs.ArriveLaws.{groups_of}
 use Rattle.simulation.proofs.UnwindLaws as Unwinding
 use Rattle.simulation.proofs.UnwindLaws.{as_many, unwinds, unwinds_at}
-use Rattle.simulation.proofs.ReturnLaws as Returning
-use Rattle.simulation.proofs.CheckLaws as Checking
+use Rattle.simulation_steps.proofs.ReturnLaws as Returning
+use Rattle.simulation_calls.proofs.CheckLaws as Checking
 
 not_inline : (c : Plan) (gr : Group) (j : ℕ) (x : Piece) → piece_at (Some c) gr j ≡ Some x → gr ≡ group.Inline → ⊥
 not_inline c gr j x e q = let z : slice_get (pieces c group.Inline) j ≡ Some x = ap (λ y. slice_get (pieces c y) j) (sym q) ∙ e in absurd (cc z)
@@ -85,7 +86,7 @@ module _ (p : Program) (k : Contracts) (ms : List MethodDesc) (g : AddedNumbers)
     pub alike : IsBeside w ss
     pub deep : w.depth ≤ suc k.settings.guard
     pub count : w.depth ≡ 1 + count_groups fs
-    pub tries : (l : LocalState) (v : World) (ss2 : List Statics) → IsBeside v ss2 → Returning.TriesOn p k ms g r h.continuation l.args l.result fs fs' v ss2 (cst + lay (length fs))
+    pub tries : (l : LocalState) (v : World) (ss2 : List Statics) → IsBeside v ss2 → Steps.TriesOn p k ms g r h.continuation l.args l.result fs fs' v ss2 (cst + lay (length fs))
 
   -- how many steps at most
   abbrev ending : ℕ → ℕ

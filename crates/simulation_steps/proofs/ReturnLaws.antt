@@ -36,14 +36,15 @@ use Rattle.splice_facts.specs.Layout.{Marks, Keeps, IsHere, CanArrive}
 use Rattle.splice_facts.specs.Spliced.{Paired, stands, Arrives}
 use Rattle.splice_facts.specs.Related.{Rewritten, HandlingPairs, Waits, FramePair, Under, count_groups, in_group}
 use Rattle.splice_facts.specs.Related as Pairs
+use Rattle.simulation_steps.specs.Steps as Steps
 use Rattle.splice_facts.proofs.ComesLaws.{found_piece}
 use Rattle.simulation.proofs.ArriveLaws as Arriving
 use Rattle.simulation.proofs.ArriveLaws.{group_begins, groups_of, arrives_here, rest_here}
 use Rattle.simulation.proofs.UnwindLaws as Unwinding
 use Rattle.simulation.proofs.UnwindLaws.{as_many, unwinds, unwinds_at, continued, ends_so}
 use Rattle.simulation.proofs.PushLaws as Pushing
-use Rattle.simulation.proofs.PerformLaws as Performing
-use Rattle.simulation.proofs.EnterLaws as Entering
+use Rattle.simulation_steps.proofs.PerformLaws as Performing
+use Rattle.simulation_steps.proofs.EnterLaws as Entering
 
 module _ (p : Program) (k : Contracts) (ms : List MethodDesc) (g : AddedNumbers) (r : Rewritten p k ms g) where
   abbrev p' : Program
@@ -112,18 +113,13 @@ module _ (p : Program) (k : Contracts) (ms : List MethodDesc) (g : AddedNumbers)
 
   -- ---- the value goes down
 
-  -- what ForAll and Exists do with an answer, which enters a delegate
-  abbrev pub TriesOn : Continuation → List Cell → Option Value → List Frame → List Frame → World → List Statics → ℕ → Type 0
-  TriesOn (TryNext e t l) args v fs fs' w ss n = To n (return_with p k (TryNext e t l) args v fs w) (return_with p' no_contracts (TryNext e t l) args v fs' (beside ss w))
-  TriesOn b args v fs fs' w ss n = Unit {0}
-
   uses_so : (a : Rattle.cil_semantics.specs.declared.state.Access.Access) (args : List Cell) (v : Option Value) (h h' : Frame) (hs hs' : List Frame) (w : World) (ss : List Statics) (t : Performing.Top p k ms g r h h' hs hs' w ss) → Rattle.splice_facts.specs.Layout.Onward (plan_at k p h.method) (mk h.method).places h.at (next_place h.at) → WellFormedAccess (Pairs.bounds p k ms g r) a
       → To (cst + lay (suc (length hs))) (return_with p k (UseField a) args v (h ∷ hs) w) (return_with p' no_contracts (UseField a) args v (h' ∷ hs') (beside ss w))
   uses_so a args v h h' hs hs' w ss t on fine =
       subst (λ z. To (cst + lay (suc (length hs))) (use_static p k a h h.local hs w) (use_static p' no_contracts a h' z hs' (beside ss w))) (sym (ap (λ (z : Frame). z.local) (t.pair).same))
       (Performing.uses_static p k ms g r h h' hs hs' w ss a h.local t on (record { result = refl; locals = refl; captured = refl }) fine)
 
-  common_returns : (b : Continuation) (args : List Cell) (v : Option Value) (fs fs' : List Frame) (w : World) (ss : List Statics) → Pairs.IsCommon p k ms g r b → below b b fs fs' → valid fs → IsBeside w ss → w.depth ≤ suc k.settings.guard → TriesOn b args v fs fs' w ss (cst + lay (length fs)) → ((a : Rattle.cil_semantics.specs.declared.state.Access.Access) → b ≡ UseField a → To (cst + lay (length fs)) (return_with p k (UseField a) args v fs w) (return_with p' no_contracts (UseField a) args v fs' (beside ss w)))
+  common_returns : (b : Continuation) (args : List Cell) (v : Option Value) (fs fs' : List Frame) (w : World) (ss : List Statics) → Pairs.IsCommon p k ms g r b → below b b fs fs' → valid fs → IsBeside w ss → w.depth ≤ suc k.settings.guard → Steps.TriesOn p k ms g r b args v fs fs' w ss (cst + lay (length fs)) → ((a : Rattle.cil_semantics.specs.declared.state.Access.Access) → b ≡ UseField a → To (cst + lay (length fs)) (return_with p k (UseField a) args v fs w) (return_with p' no_contracts (UseField a) args v fs' (beside ss w)))
       → To (cst + lay (length fs)) (return_with p k b args v fs w) (return_with p' no_contracts b args v fs' (beside ss w))
   common_returns Push args v fs fs' w ss c u ok bes deep t us = Pushing.pushes p k ms g r Push Push v fs fs' w ss c u ok bes deep
   common_returns (PushObject x) args v fs fs' w ss c u ok bes deep t us = Pushing.pushes p k ms g r (PushObject x) (PushObject x) (Some x) fs fs' w ss c u ok bes deep
@@ -133,7 +129,7 @@ module _ (p : Program) (k : Contracts) (ms : List MethodDesc) (g : AddedNumbers)
   common_returns (UseField a) args v fs fs' w ss c u ok bes deep t us = us a refl
   common_returns (TryNext e t0 l) args v fs fs' w ss c u ok bes deep t us = t
 
-  pub returns_down : (b b' : Continuation) (args : List Cell) (v : Option Value) (fs fs' : List Frame) (w : World) (ss : List Statics) → below b b' fs fs' → valid fs → WellFormedContinuation (Pairs.bounds p k ms g r) b → IsBeside w ss → w.depth ≤ suc k.settings.guard → w.depth ≡ count_groups fs → TriesOn b args v fs fs' w ss (cst + lay (length fs))
+  pub returns_down : (b b' : Continuation) (args : List Cell) (v : Option Value) (fs fs' : List Frame) (w : World) (ss : List Statics) → below b b' fs fs' → valid fs → WellFormedContinuation (Pairs.bounds p k ms g r) b → IsBeside w ss → w.depth ≤ suc k.settings.guard → w.depth ≡ count_groups fs → Steps.TriesOn p k ms g r b args v fs fs' w ss (cst + lay (length fs))
       → To (3 * cst + lay (length fs)) (return_with p k b args v fs w) (return_with p' no_contracts b' args v fs' (beside ss w))
   returns_down b b' args v fs fs' w ss (Under.bottom b1 c) ok fine bes deep count t =
       Unwinding.reach_within p k ms g r (cst + lay 0) _ _ _ (omega arith) (common_returns b1 args v [] [] w ss c (Under.bottom b1 c) ok bes deep t (λ a e. Arriving.stuck_both p k ms g r _ w ss bes))
@@ -160,7 +156,7 @@ module _ (p : Program) (k : Contracts) (ms : List MethodDesc) (g : AddedNumbers)
     pub fine_back : WellFormedContinuation (Pairs.bounds p k ms g r) h.continuation
     pub deep : w.depth ≤ suc k.settings.guard
     pub count : w.depth ≡ count_groups fs
-    pub tries : (v2 : World) (ss2 : List Statics) → IsBeside v2 ss2 → TriesOn h.continuation l.args l.result fs fs' v2 ss2 (cst + lay (length fs))
+    pub tries : (v2 : World) (ss2 : List Statics) → IsBeside v2 ss2 → Steps.TriesOn p k ms g r h.continuation l.args l.result fs fs' v2 ss2 (cst + lay (length fs))
 
   abbrev at_new : Frame → LocalState → List Cell → ℕ → Continuation → List Frame → World → List Statics → Next
   at_new h l ex q b' fs' w ss = stands p k p' g r.types r.depths h l ex q b' fs' w ss

@@ -35,13 +35,14 @@ use Rattle.splice_facts.specs.Spliced.{Paired, from_here}
 use Rattle.splice_facts.specs.Spliced as Spliced
 use Rattle.splice_facts.specs.Related.{Rewritten, Under, FramePair, count_groups, in_group}
 use Rattle.splice_facts.specs.Related as Pairs
+use Rattle.simulation_steps.specs.Steps as Steps
 use Rattle.splice_facts.proofs.ComesLaws.{no_plan}
 use Rattle.simulation.proofs.ArriveLaws as Arriving
 use Rattle.simulation.proofs.ArriveLaws.{group_begins, groups_of}
 use Rattle.simulation.proofs.UnwindLaws as Unwinding
 use Rattle.simulation.proofs.UnwindLaws.{as_many}
-use Rattle.simulation.proofs.ReturnLaws as Returning
-use Rattle.simulation.proofs.StepLaws as Stepping
+use Rattle.simulation_steps.proofs.ReturnLaws as Returning
+use Rattle.simulation_steps.proofs.StepLaws as Stepping
 use Rattle.splice_facts.proofs.StoreLaws as Storing
 
 module _ (p : Program) (k : Contracts) (ms : List MethodDesc) (g : AddedNumbers) (r : Rewritten p k ms g) where
@@ -68,7 +69,7 @@ module _ (p : Program) (k : Contracts) (ms : List MethodDesc) (g : AddedNumbers)
     pub top : Pairs.TopPair p k ms g r f f' fs fs' w ss
     pub outside : w.depth ≡ count_groups fs
     pub fine_back : WellFormedContinuation (Pairs.bounds p k ms g r) f.continuation
-    pub tries : (l : LocalState) (v : World) (ss2 : List Statics) → IsBeside v ss2 → Returning.TriesOn p k ms g r f.continuation l.args l.result fs fs' v ss2 (cst + lay (length fs))
+    pub tries : (l : LocalState) (v : World) (ss2 : List Statics) → IsBeside v ss2 → Steps.TriesOn p k ms g r f.continuation l.args l.result fs fs' v ss2 (cst + lay (length fs))
 
   with_result : Option Value → LocalState → LocalState
   with_result v l = record l { result = v }

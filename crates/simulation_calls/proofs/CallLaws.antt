@@ -38,8 +38,8 @@ use Rattle.simulation.proofs.ArriveLaws as Arriving
 use Rattle.simulation.proofs.UnwindLaws as Unwinding
 use Rattle.simulation.proofs.UnwindLaws.{unwinds}
 use Rattle.simulation.proofs.PushLaws as Pushing
-use Rattle.simulation.proofs.OutsideLaws as Asking
-use Rattle.simulation.proofs.EnterLaws as Entering
+use Rattle.simulation_calls.proofs.OutsideLaws as Asking
+use Rattle.simulation_steps.proofs.EnterLaws as Entering
 
 -- what of a member its being core goes by
 abbrev core_as : Ty → Name → Name → List Ty → Bool → CoreMember

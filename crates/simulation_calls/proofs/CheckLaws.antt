@@ -38,7 +38,7 @@ use Rattle.splice_facts.specs.Related.{Rewritten, Under}
 use Rattle.splice_facts.specs.Related as Pairs
 use Rattle.simulation.proofs.ArriveLaws as Arriving
 use Rattle.simulation.proofs.UnwindLaws as Unwinding
-use Rattle.simulation.proofs.OutsideLaws as Asking
+use Rattle.simulation_calls.proofs.OutsideLaws as Asking
 use Rattle.splice_facts.proofs.AskFrameLaws.{with_frames, ask_frames, event_plain, trigger_plain}
 
 module _ (p : Program) (k : Contracts) (ms : List MethodDesc) (g : AddedNumbers) (r : Rewritten p k ms g) where
