@@ -33,6 +33,8 @@ use Rattle.splice_facts.specs.Grown.{grow, beside}
 use Rattle.splice_facts.specs.WellFormed.{is_below}
 use Rattle.splice_facts.specs.Related.{Rewritten, Under, count_groups}
 use Rattle.splice_facts.specs.Related as Pairs
+use Rattle.simulation_calls.specs.Outside as Alike
+use Rattle.simulation_calls.specs.Calls as Sites
 use Rattle.simulation.proofs.ProgramLaws.{fun_ext, storage_same, default_same, sub_same, with_object_same}
 use Rattle.simulation.proofs.ArriveLaws as Arriving
 use Rattle.simulation.proofs.UnwindLaws as Unwinding
@@ -116,7 +118,7 @@ module _ (p : Program) (k : Contracts) (ms : List MethodDesc) (g : AddedNumbers)
       ap (λ x. with_default p' owner m values x) (member_same owner m args) ∙ ap (λ b. if b then record (member_of p owner m args) { default = slice_get values 2 } else member_of p owner m args) (event_same owner m)
 
   -- what comes back from outside goes on in the frame that called
-  on_answers : (n c d : ℕ) (a a' : Answer) → d ≤ suc k.settings.guard → d ≡ c → Asking.BothAnswer p k ms g r Push Push n c d a a' → To (2 * cst + lay n) (on_answer p k a) (on_answer p' no_contracts a')
+  on_answers : (n c d : ℕ) (a a' : Answer) → d ≤ suc k.settings.guard → d ≡ c → Alike.BothAnswer p k ms g r Push Push n c d a a' → To (2 * cst + lay n) (on_answer p k a) (on_answer p' no_contracts a')
   on_answers n c d (Returned v gs w) (Returned v' gs' w') deep count z =
       let b = z.1 in
       subst (λ y. To (2 * cst + lay n) (push_below p k v gs w) (push_below p' no_contracts y gs' w')) (sym z.0)
@@ -137,24 +139,13 @@ module _ (p : Program) (k : Contracts) (ms : List MethodDesc) (g : AddedNumbers)
   on_answers n c d (Unfit w) (Returned v' gs' w') deep count z = absurd z
   on_answers n c d (Unfit w) (Threw x' gs' w') deep count z = absurd z
 
-  -- the frames that a call leaves behind, and its values' pointers
-  pub record Call_site (fs fs' : List Frame) (w : World) (ss : List Statics) : Type 0 where
-    pub under : below Push Push fs fs'
-    pub others : valid fs
-    pub alike : IsBeside w ss
-    pub deep : w.depth ≤ suc k.settings.guard
-    pub count : w.depth ≡ count_groups fs
-
-  abbrev pub FineValuesFor : Ty → ℕ → List Ty → List Value → Type 0
-  FineValuesFor owner m args values = (cells : List Cell) → stored_args p (with_default p owner m values (member_of p owner m args)).params values ≡ Some cells → Asking.FineRefs p k ms g r (by_ref_args (with_default p owner m values (member_of p owner m args)).params (map (λ (c : Cell). c.value) cells))
-
-  pub calls_outside : (owner : Ty) (m : ℕ) (args : List Ty) (values : List Value) (fs fs' : List Frame) (w : World) (ss : List Statics) → Call_site fs fs' w ss → FineValuesFor owner m args values → To (2 * cst + lay (length fs)) (outside_call p k owner m args values fs w) (outside_call p' no_contracts owner m args values fs' (beside ss w))
+  pub calls_outside : (owner : Ty) (m : ℕ) (args : List Ty) (values : List Value) (fs fs' : List Frame) (w : World) (ss : List Statics) → Sites.CallSite p k ms g r fs fs' w ss → Sites.WellFormedFor p k ms g r owner m args values → To (2 * cst + lay (length fs)) (outside_call p k owner m args values fs w) (outside_call p' no_contracts owner m args values fs' (beside ss w))
   calls_outside owner m args values fs fs' w ss z fine =
       subst (λ x. To (2 * cst + lay (length fs)) (outside_call p k owner m args values fs w) (on_answer p' no_contracts (ask p' x values fs' (beside ss w)))) (sym (called_member owner m args values))
       (on_answers (length fs) (count_groups fs) w.depth _ _ z.deep z.count (Asking.asks p k ms g r Push Push (with_default p owner m values (member_of p owner m args)) values fs fs' w ss z.under z.others z.alike fine))
 
   -- a member outside, or a method with a body
-  pub calls_plainly : (owner : Ty) (m : ℕ) (args : List Ty) (values : List Value) (fs fs' : List Frame) (w : World) (ss : List Statics) → m < r.methods → IsTrue (is_below r.types owner) → Call_site fs fs' w ss → FineValuesFor owner m args values → To (2 * cst + lay (suc (suc (length fs)))) (plain_call p k owner m args values fs w) (plain_call p' no_contracts owner m args values fs' (beside ss w))
+  pub calls_plainly : (owner : Ty) (m : ℕ) (args : List Ty) (values : List Value) (fs fs' : List Frame) (w : World) (ss : List Statics) → m < r.methods → IsTrue (is_below r.types owner) → Sites.CallSite p k ms g r fs fs' w ss → Sites.WellFormedFor p k ms g r owner m args values → To (2 * cst + lay (suc (suc (length fs)))) (plain_call p k owner m args values fs w) (plain_call p' no_contracts owner m args values fs' (beside ss w))
   calls_plainly owner m args values fs fs' w ss old a z fine =
       subst (λ t. To (2 * cst + lay (suc (suc (length fs)))) (plain_call p k owner m args values fs w) (if t then outside_call p' no_contracts owner m args values fs' (beside ss w) else if is_some (method_of p' m).body then enter p' no_contracts owner m args values Push fs' (beside ss w) else stuck (beside ss w))) (sym (outside_same m))
       (subst (λ t. To (2 * cst + lay (suc (suc (length fs)))) (plain_call p k owner m args values fs w) (if is_outside p m then outside_call p' no_contracts owner m args values fs' (beside ss w) else if t then enter p' no_contracts owner m args values Push fs' (beside ss w) else stuck (beside ss w))) (sym ((r.same_methods m).has_body))
@@ -170,30 +161,25 @@ module _ (p : Program) (k : Contracts) (ms : List MethodDesc) (g : AddedNumbers)
   abbrev big : ℕ → ℕ
   big n = 2 * cst + lay (suc (suc n))
 
-  pushes_here : (v : Option Value) (fs fs' : List Frame) (w : World) (ss : List Statics) → Call_site fs fs' w ss → To (big (length fs)) (push_below p k v fs w) (push_below p' no_contracts v fs' (beside ss w))
+  pushes_here : (v : Option Value) (fs fs' : List Frame) (w : World) (ss : List Statics) → Sites.CallSite p k ms g r fs fs' w ss → To (big (length fs)) (push_below p k v fs w) (push_below p' no_contracts v fs' (beside ss w))
   pushes_here v fs fs' w ss z = Unwinding.reach_within p k ms g r (cst + lay (length fs)) _ _ _ (omega arith) (Pushing.pushes p k ms g r Push Push v fs fs' w ss tt z.under z.others z.alike z.deep)
 
-  pushes_if : (o : Option Value) (fs fs' : List Frame) (w : World) (ss : List Statics) → Call_site fs fs' w ss → To (big (length fs)) (if_there o w (λ v. push_below p k (Some v) fs w)) (if_there o (beside ss w) (λ v. push_below p' no_contracts (Some v) fs' (beside ss w)))
+  pushes_if : (o : Option Value) (fs fs' : List Frame) (w : World) (ss : List Statics) → Sites.CallSite p k ms g r fs fs' w ss → To (big (length fs)) (if_there o w (λ v. push_below p k (Some v) fs w)) (if_there o (beside ss w) (λ v. push_below p' no_contracts (Some v) fs' (beside ss w)))
   pushes_if None fs fs' w ss z = Arriving.stuck_both p k ms g r _ w ss z.alike
   pushes_if (Some v) fs fs' w ss z = pushes_here (Some v) fs fs' w ss z
 
-  raises_here : (name : Name) (fs fs' : List Frame) (w : World) (ss : List Statics) → Call_site fs fs' w ss → To (big (length fs)) (raise p k name fs w) (raise p' no_contracts name fs' (beside ss w))
+  raises_here : (name : Name) (fs fs' : List Frame) (w : World) (ss : List Statics) → Sites.CallSite p k ms g r fs fs' w ss → To (big (length fs)) (raise p k name fs w) (raise p' no_contracts name fs' (beside ss w))
   unfolding storage
   raises_here name fs fs' w ss z =
       Unwinding.reach_within p k ms g r (2 * cst + lay (length fs)) _ _ _ (omega arith)
       (unwinds p k ms g r Push Push fs fs' z.under z.others (state.with_object p (record { ty = class_named name; cells = [] }) w) ss (state.next_object w) (record { statics = (z.alike).statics; depth = (z.alike).depth; bare = (z.alike).bare }) z.count z.deep)
 
-  counts_so : (t : Texted) (fs fs' : List Frame) (w : World) (ss : List Statics) → Call_site fs fs' w ss → To (big (length fs)) (count_units p k t fs w) (count_units p' no_contracts t fs' (beside ss w))
+  counts_so : (t : Texted) (fs fs' : List Frame) (w : World) (ss : List Statics) → Sites.CallSite p k ms g r fs fs' w ss → To (big (length fs)) (count_units p k t fs w) (count_units p' no_contracts t fs' (beside ss w))
   counts_so NullText fs fs' w ss z = raises_here (codes "System.NullReferenceException") fs fs' w ss z
   counts_so (SomeText a) fs fs' w ss z = pushes_here _ fs fs' w ss z
   counts_so NotText fs fs' w ss z = Arriving.stuck_both p k ms g r _ w ss z.alike
 
-  -- what ForAll and Exists do, which enter delegates
-  abbrev QuantifiesOn : CoreMember → Ty → ℕ → List Ty → List Value → List Frame → List Frame → World → List Statics → Type 0
-  QuantifiesOn (Quantifier e) owner m args values fs fs' w ss = To (big (length fs)) (quantify p k e values fs w (plain_call p k owner m args values fs w)) (quantify p' no_contracts e values fs' (beside ss w) (plain_call p' no_contracts owner m args values fs' (beside ss w)))
-  QuantifiesOn c owner m args values fs fs' w ss = Unit {0}
-
-  calls_core : (c : CoreMember) (owner : Ty) (m : ℕ) (args : List Ty) (values : List Value) (fs fs' : List Frame) (w : World) (ss : List Statics) → m < r.methods → IsTrue (is_below r.types owner) → Call_site fs fs' w ss → FineValuesFor owner m args values → QuantifiesOn c owner m args values fs fs' w ss → To (big (length fs)) (call_core p k c owner m args values fs w) (call_core p' no_contracts c owner m args values fs' (beside ss w))
+  calls_core : (c : CoreMember) (owner : Ty) (m : ℕ) (args : List Ty) (values : List Value) (fs fs' : List Frame) (w : World) (ss : List Statics) → m < r.methods → IsTrue (is_below r.types owner) → Sites.CallSite p k ms g r fs fs' w ss → Sites.WellFormedFor p k ms g r owner m args values → Sites.QuantifiesOn p k ms g r c owner m args values fs fs' w ss → To (big (length fs)) (call_core p k c owner m args values fs w) (call_core p' no_contracts c owner m args values fs' (beside ss w))
   calls_core Constructor owner m args values fs fs' w ss old a z fine q = pushes_here None fs fs' w ss z
   calls_core (Equality b) owner m args values fs fs' w ss old a z fine q = pushes_if (string_answer (Equality b) values) fs fs' w ss z
   calls_core Concatenation owner m args values fs fs' w ss old a z fine q = pushes_if (string_answer Concatenation values) fs fs' w ss z
@@ -203,7 +189,7 @@ module _ (p : Program) (k : Contracts) (ms : List MethodDesc) (g : AddedNumbers)
   calls_core NotCore owner m args values fs fs' w ss old a z fine q = calls_plainly owner m args values fs fs' w ss old a z fine
 
   -- a call of the member that a token names
-  pub calls_member : (owner : Ty) (m : ℕ) (args : List Ty) (values : List Value) (fs fs' : List Frame) (w : World) (ss : List Statics) → m < r.methods → IsTrue (is_below r.types owner) → Call_site fs fs' w ss → FineValuesFor owner m args values → QuantifiesOn (core_of p owner m) owner m args values fs fs' w ss → To (big (length fs)) (call_member p k owner m args values fs w) (call_member p' no_contracts owner m args values fs' (beside ss w))
+  pub calls_member : (owner : Ty) (m : ℕ) (args : List Ty) (values : List Value) (fs fs' : List Frame) (w : World) (ss : List Statics) → m < r.methods → IsTrue (is_below r.types owner) → Sites.CallSite p k ms g r fs fs' w ss → Sites.WellFormedFor p k ms g r owner m args values → Sites.QuantifiesOn p k ms g r (core_of p owner m) owner m args values fs fs' w ss → To (big (length fs)) (call_member p k owner m args values fs w) (call_member p' no_contracts owner m args values fs' (beside ss w))
   unfolding call_member
   calls_member owner m args values fs fs' w ss old a z fine q =
       subst (λ c. To (big (length fs)) (call_core p k (core_of p owner m) owner m args values fs w) (call_core p' no_contracts c owner m args values fs' (beside ss w))) (sym (core_same owner m)) (calls_core (core_of p owner m) owner m args values fs fs' w ss old a z fine q)

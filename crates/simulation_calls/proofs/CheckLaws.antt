@@ -36,6 +36,8 @@ use Rattle.splice_facts.specs.Grown.{grow, beside}
 use Rattle.splice_facts.specs.Spliced.{checking}
 use Rattle.splice_facts.specs.Related.{Rewritten, Under}
 use Rattle.splice_facts.specs.Related as Pairs
+use Rattle.simulation_calls.specs.Outside as Alike
+use Rattle.simulation_calls.specs.Failures as Failing
 use Rattle.simulation.proofs.ArriveLaws as Arriving
 use Rattle.simulation.proofs.UnwindLaws as Unwinding
 use Rattle.simulation_calls.proofs.OutsideLaws as Asking
@@ -52,22 +54,12 @@ module _ (p : Program) (k : Contracts) (ms : List MethodDesc) (g : AddedNumbers)
   IsBeside w ss = Unwinding.IsBeside p k ms g r w ss
 
   -- the frames are asked alone
-  asks_alone : (m : Member) (values : List Value) (w : World) (ss : List Statics) → IsBeside w ss → ((vs : List Value) → by_ref_args m.params vs ≡ []) → Asking.BothAnswer p k ms g r Push Push 0 0 w.depth (ask p m values [] w) (ask p' m values [] (beside ss w))
+  asks_alone : (m : Member) (values : List Value) (w : World) (ss : List Statics) → IsBeside w ss → ((vs : List Value) → by_ref_args m.params vs ≡ []) → Alike.BothAnswer p k ms g r Push Push 0 0 w.depth (ask p m values [] w) (ask p' m values [] (beside ss w))
   asks_alone m values w ss bes none =
-      Asking.asks p k ms g r Push Push m values [] [] w ss (Under.bottom Push tt) tt bes (λ cells e. subst (Asking.FineRefs p k ms g r) (sym (none (map (λ (c : Cell). c.value) cells))) tt)
+      Asking.asks p k ms g r Push Push m values [] [] w ss (Under.bottom Push tt) tt bes (λ cells e. subst (Alike.WellFormedRefs p k ms g r) (sym (none (map (λ (c : Cell). c.value) cells))) tt)
 
-  abbrev Both0 : ℕ → List Frame → List Frame → World → World → Type 0
-  Both0 d gs gs' u u' = Asking.Both p k ms g r Push Push 0 0 d gs gs' u u'
-
-  -- what follows a failure, in both runs, from worlds that are alike
-  pub record AlikeSequels (n d : ℕ) (x : Failure) (s t : Sequel) (fs fs2 : List Frame) : Type 0 where
-    pub passes_so : (v : World) (ss : List Statics) → IsBeside v ss → v.depth ≡ d → To n (s.passes v) (t.passes (beside ss v))
-    pub throws_so : (v : World) (ss : List Statics) (y : ℕ) → IsBeside v ss → v.depth ≡ d → To n (s.throws v y) (t.throws (beside ss v) y)
-    pub makes_so : (v : World) (ss : List Statics) (ty : Ty) (text : Value) → x.kind ≡ kind.RequiresOf → made_type x ≡ Some ty → IsBeside v ss → v.depth ≡ d → To n (throw_exception p g k.settings.throwing x s ty text fs v) (throw_exception p' g k.settings.throwing x t ty text fs2 (beside ss v))
-    pub stops_so : (v : World) (ss : List Statics) → IsBeside v ss → To n (s.stops v) (t.stops (beside ss v))
-
-  module _ (n d : ℕ) (x : Failure) (s t : Sequel) (fs fs2 : List Frame) (a : AlikeSequels n d x s t fs fs2) where
-    triggers_so : (A A' : Answer) → Asking.BothAnswer p k ms g r Push Push 0 0 d A A' → To n (triggered p g k.settings.throwing x s (with_frames fs A)) (triggered p' g k.settings.throwing x t (with_frames fs2 A'))
+  module _ (n d : ℕ) (x : Failure) (s t : Sequel) (fs fs2 : List Frame) (a : Failing.AlikeSequels p k ms g r n d x s t fs fs2) where
+    triggers_so : (A A' : Answer) → Alike.BothAnswer p k ms g r Push Push 0 0 d A A' → To n (triggered p g k.settings.throwing x s (with_frames fs A)) (triggered p' g k.settings.throwing x t (with_frames fs2 A'))
     triggers_so (Returned v gs u) (Returned v' gs' u') z = subst (λ y. To n (s.passes u) (t.passes y)) (sym (z.1).world) (a.passes_so u (z.1).statics (z.1).alike (z.1).depth)
     triggers_so (Threw y gs u) (Threw y' gs' u') z =
         subst (λ y1. To n (s.throws u y) (t.throws u' y1)) (sym z.0) (subst (λ y1. To n (s.throws u y) (t.throws y1 y)) (sym (z.1).world) (a.throws_so u (z.1).statics y (z.1).alike (z.1).depth))
@@ -91,7 +83,7 @@ module _ (p : Program) (k : Contracts) (ms : List MethodDesc) (g : AddedNumbers)
     throws_or_triggers text w ss bes e false =
         subst (λ A. To n (triggered p g k.settings.throwing x s A) (triggered p' g k.settings.throwing x t (ask p' (trigger_member g) (trigger_values text) fs2 (beside ss w)))) (sym (ask_frames p (trigger_member g) (trigger_values text) fs w (trigger_plain g)))
         (subst (λ A. To n (triggered p g k.settings.throwing x s (with_frames fs (ask p (trigger_member g) (trigger_values text) [] w))) (triggered p' g k.settings.throwing x t A)) (sym (ask_frames p' (trigger_member g) (trigger_values text) fs2 (beside ss w) (trigger_plain g)))
-        (triggers_so (ask p (trigger_member g) (trigger_values text) [] w) (ask p' (trigger_member g) (trigger_values text) [] (beside ss w)) (subst (λ z. Asking.BothAnswer p k ms g r Push Push 0 0 z (ask p (trigger_member g) (trigger_values text) [] w) (ask p' (trigger_member g) (trigger_values text) [] (beside ss w))) e (asks_alone (trigger_member g) (trigger_values text) w ss bes (trigger_plain g)))))
+        (triggers_so (ask p (trigger_member g) (trigger_values text) [] w) (ask p' (trigger_member g) (trigger_values text) [] (beside ss w)) (subst (λ z. Alike.BothAnswer p k ms g r Push Push 0 0 z (ask p (trigger_member g) (trigger_values text) [] w) (ask p' (trigger_member g) (trigger_values text) [] (beside ss w))) e (asks_alone (trigger_member g) (trigger_values text) w ss bes (trigger_plain g)))))
 
     kinds_so : (kd : ClauseKind) → x.kind ≡ kd → (text : Value) (w : World) (ss : List Statics) → IsBeside w ss → w.depth ≡ d → To n (fail_with p g k.settings.throwing x s kd text fs w) (fail_with p' g k.settings.throwing x t kd text fs2 (beside ss w))
     kinds_so kind.RequiresOf ek text w ss bes e = by_exception (made_type x) refl
@@ -116,7 +108,7 @@ module _ (p : Program) (k : Contracts) (ms : List MethodDesc) (g : AddedNumbers)
     by_value None w ss bes e = a.stops_so w ss bes
     by_value (Some v) w ss bes e = replies_so (out-Value v) w ss bes e
 
-    answers_so : (A A' : Answer) → Asking.BothAnswer p k ms g r Push Push 0 0 d A A' → To n (reported p g k.settings.throwing x s fs (with_frames fs A)) (reported p' g k.settings.throwing x t fs2 (with_frames fs2 A'))
+    answers_so : (A A' : Answer) → Alike.BothAnswer p k ms g r Push Push 0 0 d A A' → To n (reported p g k.settings.throwing x s fs (with_frames fs A)) (reported p' g k.settings.throwing x t fs2 (with_frames fs2 A'))
     answers_so (Returned o gs u) (Returned o' gs' u') z =
         subst (λ q. To n (reported p g k.settings.throwing x s fs (Returned o fs u)) (reported p' g k.settings.throwing x t fs2 (Returned q fs2 u'))) (sym z.0)
         (subst (λ y. To n (reported p g k.settings.throwing x s fs (Returned o fs u)) (reported p' g k.settings.throwing x t fs2 (Returned o fs2 y))) (sym (z.1).world) (by_value o u (z.1).statics (z.1).alike (z.1).depth))
@@ -140,7 +132,7 @@ module _ (p : Program) (k : Contracts) (ms : List MethodDesc) (g : AddedNumbers)
         subst (λ A. To n (reported p g k.settings.throwing x s fs A) (failing p' g k.settings.throwing x t fs2 (beside ss w))) (sym (ask_frames p (event_member g (label_text x)) event_values fs w (event_plain g (label_text x))))
         (subst (λ A. To n (reported p g k.settings.throwing x s fs (with_frames fs (ask p (event_member g (label_text x)) event_values [] w))) (reported p' g k.settings.throwing x t fs2 A)) (sym (ask_frames p' (event_member g (label_text x)) event_values fs2 (beside ss w) (event_plain g (label_text x))))
         (answers_so (ask p (event_member g (label_text x)) event_values [] w) (ask p' (event_member g (label_text x)) event_values [] (beside ss w))
-        (subst (λ z. Asking.BothAnswer p k ms g r Push Push 0 0 z (ask p (event_member g (label_text x)) event_values [] w) (ask p' (event_member g (label_text x)) event_values [] (beside ss w))) e (asks_alone (event_member g (label_text x)) event_values w ss bes (event_plain g (label_text x))))))
+        (subst (λ z. Alike.BothAnswer p k ms g r Push Push 0 0 z (ask p (event_member g (label_text x)) event_values [] w) (ask p' (event_member g (label_text x)) event_values [] (beside ss w))) e (asks_alone (event_member g (label_text x)) event_values w ss bes (event_plain g (label_text x))))))
 
     pub checks_so : (b : Bool) (w : World) (ss : List Statics) → IsBeside w ss → w.depth ≡ d → To n (checking p g k.settings.throwing x s b fs w) (checking p' g k.settings.throwing x t b fs2 (beside ss w))
     checks_so true w ss bes e = a.passes_so w ss bes e

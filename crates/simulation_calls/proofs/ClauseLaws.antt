@@ -37,6 +37,7 @@ use Rattle.splice_facts.specs.Spliced.{checking}
 use Rattle.splice_facts.specs.Spliced.{Paired, clause_failure, from_here, Checked, failure_cost, twin}
 use Rattle.splice_facts.specs.Related.{Rewritten, Under, FramePair, Waits, count_groups, in_group}
 use Rattle.splice_facts.specs.Related as Pairs
+use Rattle.simulation_calls.specs.Failures as Failing
 use Rattle.simulation_steps.specs.Steps as Steps
 use Rattle.simulation.proofs.ArriveLaws as Arriving
 use Rattle.simulation.proofs.ArriveLaws.{groups_of}
@@ -70,32 +71,8 @@ module _ (p : Program) (k : Contracts) (ms : List MethodDesc) (g : AddedNumbers)
   abbrev IsBeside : World → List Statics → Type 0
   IsBeside w ss = Unwinding.IsBeside p k ms g r w ss
 
-  -- a frame in a piece, with what its group needs when it is over
-  pub record In_piece (c : Plan) (gr : Group) (j q : ℕ) (x : Piece) (h : Frame) (ex : List Cell) (b' : Continuation) (fs fs' : List Frame) (w : World) (ss : List Statics) : Type 0 where
-    pub plan : plan_at k p h.method ≡ Some c
-    pub at : h.at ≡ InGroup gr j q
-    pub piece : piece_at (Some c) gr j ≡ Some x
-    pub here : IsHere (plan_at k p h.method) h.at
-    pub stands : Pairs.Standing p k ms g r h fs
-    pub stays : Rattle.splice_facts.specs.Spliced.StaysIn p k p' g r.types r.depths c gr h h.local.result
-    pub keeps : Keeps (mk h.method) (here_of h fs) h.thrown h.local ex
-    pub bare : h.handling ≡ []
-    pub under : Under p k ms g r h.continuation b' fs fs'
-    pub others : valid fs
-    pub fine_back : WellFormedContinuation (Pairs.bounds p k ms g r) h.continuation
-    pub alike : IsBeside w ss
-    pub deep : w.depth ≤ suc k.settings.guard
-    pub count : w.depth ≡ 1 + count_groups fs
-    pub tries : (l : LocalState) (v : World) (ss2 : List Statics) → IsBeside v ss2 → Steps.TriesOn p k ms g r h.continuation l.args l.result fs fs' v ss2 (cst + lay (length fs))
-
-  -- how many steps at most
   abbrev ending : ℕ → ℕ
   ending n = 3 * cst + lay (suc n)
-
-  -- where a failed Requires<E> makes its exception, both runs make it alike
-  abbrev pub Makes_alike : Failure → Sequel → Sequel → List Frame → List Frame → ℕ → ℕ → Type 0
-  Makes_alike x s t fs fs' n d =
-      (v : World) (ss2 : List Statics) (ty : Ty) (text : Value) → x.kind ≡ kind.RequiresOf → made_type x ≡ Some ty → IsBeside v ss2 → v.depth ≡ d → To n (throw_exception p g k.settings.throwing x s ty text fs v) (throw_exception p' g k.settings.throwing x t ty text fs' (beside ss2 v))
 
   fits_in : (gr : Group) (j q : ℕ) (h : Frame) (fs : List Frame) → h.at ≡ InGroup gr j q → Pairs.Standing p k ms g r h fs → Unwinding.Fits p k ms g r gr h.thrown
   fits_in gr j q h fs e st = subst (λ a. Pairs.FitsAt (Unwinding.Fits p k ms g r) a h.thrown) e st.fits
@@ -103,27 +80,14 @@ module _ (p : Program) (k : Contracts) (ms : List MethodDesc) (g : AddedNumbers)
   no_waits : (m : ℕ) (gr : Group) (j q : ℕ) (a : ProgramPoint) (hs : List Rattle.cil_semantics.specs.declared.state.Handling.Handling) → a ≡ InGroup gr j q → hs ≡ [] → Waits (plan_at k p m) (mk m) (length (Rattle.cil_semantics.specs.Unwind.body_of p m).regions) a hs []
   no_waits m gr j q a hs e e2 = subst (λ z. Waits (plan_at k p m) (mk m) (length (Rattle.cil_semantics.specs.Unwind.body_of p m).regions) z hs []) (sym e) (e2, refl)
 
-  -- what the plain run does then
-  abbrev pub new_sequel : Frame → List Frame → Continuation → LocalState → List Cell → (seam on : ℕ) → Sequel
-  new_sequel h fs' b' l after seam on =
-      record {
-        passes = λ v. Running (record { frames = Unwinding.tw p k ms g r h l after on [] b' ∷ fs'; world = v });
-        throws = λ v y. unwind p' no_contracts false (Unwinding.tw p k ms g r h l after seam [] b' ∷ fs') v y;
-        makes = λ v ty c values. Rattle.cil_semantics.specs.Calls.make p' no_contracts (Rattle.cil_semantics.specs.Calls.pushes_new p' no_contracts) ty c values (Unwinding.tw p k ms g r h l after seam [] b' ∷ fs') v;
-        stops = λ v. stuck v;
-      }
-
-  abbrev pub old_sequel : Plan → Group → ℕ → Frame → LocalState → List Frame → Sequel
-  old_sequel c gr j h l fs = goes_on_from p k (record h { local = l } ∷ fs) (λ v. piece_over p k c gr j (with_local l h) fs v)
-
   -- the condition is there: it holds and the piece is over, or it fails
-  condition_ends : (c : Plan) (gr : Group) (j q : ℕ) (x : Piece) (h : Frame) (ex : List Cell) (b' : Continuation) (fs fs' : List Frame) (w : World) (ss : List Statics) (o : Condition) (z : In_piece c gr j q x h ex b' fs fs' w ss)
+  pub condition_ends : (c : Plan) (gr : Group) (j q : ℕ) (x : Piece) (h : Frame) (ex : List Cell) (b' : Continuation) (fs fs' : List Frame) (w : World) (ss : List Statics) (o : Condition) (z : Failing.InPiece p k ms g r c gr j q x h ex b' fs fs' w ss)
       → (ch : Checked p k p' g r.types r.depths (mk h.method) h fs fs' w ex ss b' [] (clause_failure p k p' g r.types r.depths h fs x o.user) o.holds o.rest ((mk h.method).behind gr j))
-      → Makes_alike (clause_failure p k p' g r.types r.depths h fs x o.user) (old_sequel c gr j h (with_stack h.local o.rest) fs) (new_sequel h fs' b' (with_stack h.local o.rest) ch.after ch.seam ((mk h.method).behind gr j)) (record h { local = with_stack h.local o.rest } ∷ fs) fs' (ending (length fs)) w.depth
+      → Failing.MakesAlike p k ms g r (clause_failure p k p' g r.types r.depths h fs x o.user) (Failing.old_sequel p k ms g r c gr j h (with_stack h.local o.rest) fs) (Failing.new_sequel p k ms g r h fs' b' (with_stack h.local o.rest) ch.after ch.seam ((mk h.method).behind gr j)) (record h { local = with_stack h.local o.rest } ∷ fs) fs' (ending (length fs)) w.depth
       → To (failure_cost k p + ending (length fs)) (check p k g (clause_failure p k p' g r.types r.depths h fs x o.user) o.holds (record h { local = with_stack h.local o.rest } ∷ fs) w (λ v. piece_over p k c gr j (with_local (with_stack h.local o.rest) h) fs v)) (from_here p k p' g r.types r.depths (mk h.method) h ex b' fs' w ss [])
   condition_ends c gr j q x h ex b' fs fs' w ss o z ch mk_so =
       Unwinding.reach_by p k ms g r (failure_cost k p) (ending (length fs)) _ _ _ ch.comes
-      (Checking.checks_so p k ms g r (ending (length fs)) w.depth fl (old_sequel c gr j h l fs) (new_sequel h fs' b' l ch.after ch.seam ((mk h.method).behind gr j)) (record h { local = l } ∷ fs) fs'
+      (Checking.checks_so p k ms g r (ending (length fs)) w.depth fl (Failing.old_sequel p k ms g r c gr j h l fs) (Failing.new_sequel p k ms g r h fs' b' l ch.after ch.seam ((mk h.method).behind gr j)) (record h { local = l } ∷ fs) fs'
       (record { passes_so = passes; throws_so = throws; makes_so = mk_so; stops_so = λ v ss2 bes. Arriving.stuck_both p k ms g r (ending (length fs)) v ss2 bes }) o.holds w ss z.alike refl)
     where
       l : LocalState

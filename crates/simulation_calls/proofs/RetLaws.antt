@@ -35,6 +35,7 @@ use Rattle.splice_facts.specs.Spliced.{Paired, from_here}
 use Rattle.splice_facts.specs.Spliced as Spliced
 use Rattle.splice_facts.specs.Related.{Rewritten, Under, FramePair, count_groups, in_group}
 use Rattle.splice_facts.specs.Related as Pairs
+use Rattle.simulation_calls.specs.Rets as Rets
 use Rattle.simulation_steps.specs.Steps as Steps
 use Rattle.splice_facts.proofs.ComesLaws.{no_plan}
 use Rattle.simulation.proofs.ArriveLaws as Arriving
@@ -64,18 +65,11 @@ module _ (p : Program) (k : Contracts) (ms : List MethodDesc) (g : AddedNumbers)
   abbrev IsBeside : World → List Statics → Type 0
   IsBeside w ss = Unwinding.IsBeside p k ms g r w ss
 
-  -- a frame outside of groups that returns
-  pub record Ret (f f' : Frame) (fs fs' : List Frame) (w : World) (ss : List Statics) : Type 0 where
-    pub top : Pairs.TopPair p k ms g r f f' fs fs' w ss
-    pub outside : w.depth ≡ count_groups fs
-    pub fine_back : WellFormedContinuation (Pairs.bounds p k ms g r) f.continuation
-    pub tries : (l : LocalState) (v : World) (ss2 : List Statics) → IsBeside v ss2 → Steps.TriesOn p k ms g r f.continuation l.args l.result fs fs' v ss2 (cst + lay (length fs))
-
   with_result : Option Value → LocalState → LocalState
   with_result v l = record l { result = v }
 
   -- at once: in the lead-in, and without contracts
-  at_once : (f f' : Frame) (fs fs' : List Frame) (w : World) (ss : List Statics) (z : Ret f f' fs fs' w ss) (v : Option Value) → To (3 * cst + lay (length fs)) (return_to p k (with_local (record f.local { result = v }) f) fs w) (return_to p' no_contracts (with_local (record f'.local { result = v }) f') fs' (beside ss w))
+  at_once : (f f' : Frame) (fs fs' : List Frame) (w : World) (ss : List Statics) (z : Rets.Ret p k ms g r f f' fs fs' w ss) (v : Option Value) → To (3 * cst + lay (length fs)) (return_to p k (with_local (record f.local { result = v }) f) fs w) (return_to p' no_contracts (with_local (record f'.local { result = v }) f') fs' (beside ss w))
   unfolding return_to
   at_once f f' fs fs' w ss z v =
       let t = z.top in
@@ -83,7 +77,7 @@ module _ (p : Program) (k : Contracts) (ms : List MethodDesc) (g : AddedNumbers)
       subst (λ cs. To (3 * cst + lay (length fs)) (return_with p k f.continuation f.local.args v fs w) (return_with p' no_contracts f'.continuation cs v fs' (beside ss w))) (sym a)
       (Returning.returns_down p k ms g r f.continuation f'.continuation f.local.args v fs fs' w ss t.under t.others z.fine_back t.alike t.deep z.outside (z.tries (record f.local { result = v }) w ss t.alike))
 
-  second_returns : (f f' : Frame) (fs fs' : List Frame) (w : World) (ss : List Statics) (z : Ret f f' fs fs' w ss) → returns p' no_contracts f' fs' (beside ss w) ≡ if_there (returned p f f.local.stack) (beside ss w) (λ v. return_to p' no_contracts (with_local (record f'.local { result = v }) f') fs' (beside ss w))
+  second_returns : (f f' : Frame) (fs fs' : List Frame) (w : World) (ss : List Statics) (z : Rets.Ret p k ms g r f f' fs fs' w ss) → returns p' no_contracts f' fs' (beside ss w) ≡ if_there (returned p f f.local.stack) (beside ss w) (λ v. return_to p' no_contracts (with_local (record f'.local { result = v }) f') fs' (beside ss w))
   second_returns f f' fs fs' w ss z =
       let s = (z.top).pair.same in
       ap (λ o. if_there (returned p' f' f'.local.stack) (beside ss w) (λ v. return_from p' no_contracts o f'.at (with_local (record f'.local { result = v }) f') fs' (beside ss w))) (no_plan p' f'.method)
@@ -94,7 +88,7 @@ module _ (p : Program) (k : Contracts) (ms : List MethodDesc) (g : AddedNumbers)
   comes_at_once : Option Plan → ProgramPoint → Type 0
   comes_at_once o at = (f : Frame) (l : LocalState) (fs : List Frame) (w : World) → return_from p k o at (with_local l f) fs w ≡ return_to p k (with_local l f) fs w
 
-  pub rets_at_once : (o : Option Plan) (f f' : Frame) (fs fs' : List Frame) (w : World) (ss : List Statics) (z : Ret f f' fs fs' w ss) → plan_at k p f.method ≡ o → ((l : LocalState) → return_from p k o f.at (with_local l f) fs w ≡ return_to p k (with_local l f) fs w) → To (3 * cst + lay (length fs)) (returns p k f fs w) (returns p' no_contracts f' fs' (beside ss w))
+  pub rets_at_once : (o : Option Plan) (f f' : Frame) (fs fs' : List Frame) (w : World) (ss : List Statics) (z : Rets.Ret p k ms g r f f' fs fs' w ss) → plan_at k p f.method ≡ o → ((l : LocalState) → return_from p k o f.at (with_local l f) fs w ≡ return_to p k (with_local l f) fs w) → To (3 * cst + lay (length fs)) (returns p k f fs w) (returns p' no_contracts f' fs' (beside ss w))
   rets_at_once o f f' fs fs' w ss z e once =
       subst (λ y. To (3 * cst + lay (length fs)) (returns p k f fs w) y) (sym (second_returns f f' fs fs' w ss z))
       (subst (λ y. To (3 * cst + lay (length fs)) (if_there (returned p f f.local.stack) w (λ v. return_from p k y f.at (with_local (record f.local { result = v }) f) fs w)) (if_there (returned p f f.local.stack) (beside ss w) (λ v. return_to p' no_contracts (with_local (record f'.local { result = v }) f') fs' (beside ss w)))) (sym e)
@@ -105,7 +99,7 @@ module _ (p : Program) (k : Contracts) (ms : List MethodDesc) (g : AddedNumbers)
       by_value (Some v) = subst (λ y. To (3 * cst + lay (length fs)) y (return_to p' no_contracts (with_local (record f'.local { result = v }) f') fs' (beside ss w))) (sym (once (record f.local { result = v }))) (at_once f f' fs fs' w ss z v)
 
   -- in the rest of a body with contracts the value is kept and the groups at exit come
-  pub rets_lifted : (c : Plan) (q : ℕ) (i : Instr) (f f' : Frame) (fs fs' : List Frame) (w : World) (ss : List Statics) (z : Ret f f' fs fs' w ss) → plan_at k p f.method ≡ Some c → f.at ≡ Rest q → Rattle.splice_facts.specs.Layout.fetch p k g (Some c) f.method f.at ≡ Some i → class_of i.op ≡ class.Return → f.thrown ≡ None → Rattle.splice_facts.specs.Spliced.has_exit p k p' g r.types r.depths c ≡ true → Rattle.splice_facts.specs.Spliced.Current p k p' g r.types r.depths f.method f.at f'.handling → ((v : Option Value) → returned p f f.local.stack ≡ Some v → length f.local.stack ≡ length (Rattle.splice_facts.specs.Input.top_of v))
+  pub rets_lifted : (c : Plan) (q : ℕ) (i : Instr) (f f' : Frame) (fs fs' : List Frame) (w : World) (ss : List Statics) (z : Rets.Ret p k ms g r f f' fs fs' w ss) → plan_at k p f.method ≡ Some c → f.at ≡ Rest q → Rattle.splice_facts.specs.Layout.fetch p k g (Some c) f.method f.at ≡ Some i → class_of i.op ≡ class.Return → f.thrown ≡ None → Rattle.splice_facts.specs.Spliced.has_exit p k p' g r.types r.depths c ≡ true → Rattle.splice_facts.specs.Spliced.Current p k p' g r.types r.depths f.method f.at f'.handling → ((v : Option Value) → returned p f f.local.stack ≡ Some v → length f.local.stack ≡ length (Rattle.splice_facts.specs.Input.top_of v))
       → To (4 * cst + lay (suc (length fs))) (returns p k f fs w) (from_here p k p' g r.types r.depths (mk f.method) f ((z.top).pair.extra) f'.continuation fs' w ss f'.handling)
   rets_lifted c q i f f' fs fs' w ss z e at there is bare exits current just =
       subst (λ y. To (4 * cst + lay (suc (length fs))) (if_there (returned p f f.local.stack) w (λ v. return_from p k y f.at (with_local (record f.local { result = v }) f) fs w)) from) (sym e) (by_value (returned p f f.local.stack) refl)
