@@ -157,3 +157,12 @@ module _ (p : Program) (k : Contracts) (ms : List MethodDesc) (g : AddedNumbers)
       let n = either_none (Rattle.splice_facts.specs.Spliced.has_any p k p' g r.types r.depths (pieces c group.Exit)) (Rattle.splice_facts.specs.Spliced.has_any p k p' g r.types r.depths (pieces c group.Invariant)) e in
       none_begins c group.Exit f l fs w (begin_invariants p k c (with_local l f) fs w) (no_pieces (pieces c group.Exit) n.0)
       ∙ none_begins c group.Invariant f l fs w (return_to p k (with_local l f) fs w) (no_pieces (pieces c group.Invariant) n.1)
+
+  without_exit : (o : Option Plan) (at : ProgramPoint) (f : Frame) (fs : List Frame) (w : World) → Rets.NoExit p k ms g r o at → (l : LocalState) → return_from p k o at (with_local l f) fs w ≡ return_to p k (with_local l f) fs w
+  without_exit None at f fs w n l = refl
+  without_exit (Some c) (LeadIn q) f fs w n l = refl
+  without_exit (Some c) (InGroup gr j q) f fs w n l = absurd n
+  without_exit (Some c) (Rest q) f fs w n l = returns_bare c q f l fs w n
+
+  pub rets_bare : (f f' : Frame) (fs fs' : List Frame) (w : World) (ss : List Statics) → Rets.Ret p k ms g r f f' fs fs' w ss → Rets.NoExit p k ms g r (plan_at k p f.method) f.at → To (3 * cst + lay (length fs)) (returns p k f fs w) (returns p' no_contracts f' fs' (beside ss w))
+  rets_bare f f' fs fs' w ss z n = rets_at_once (plan_at k p f.method) f f' fs fs' w ss z refl (without_exit (plan_at k p f.method) f.at f fs w n)

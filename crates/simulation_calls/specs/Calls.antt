@@ -20,7 +20,7 @@ use Rattle.splice_facts.specs.WellFormed.{is_below}
 use Rattle.splice_facts.specs.Spliced.{cost}
 use Rattle.splice_facts.specs.Related.{Rewritten, written, ReachesIn, per_frame, Under, AllStand, count_groups}
 use Rattle.simulation_steps.specs.Steps.{BesideIn}
-use Rattle.simulation_calls.specs.Outside.{WellFormedRefs, ValuesOf}
+use Rattle.simulation_calls.specs.Outside.{WellFormedRefs, values_of}
 
 module _ (p : Program) (k : Contracts) (ms : List MethodDesc) (g : AddedNumbers) (r : Rewritten p k ms g) where
   -- the frames that a call leaves behind
@@ -34,7 +34,7 @@ module _ (p : Program) (k : Contracts) (ms : List MethodDesc) (g : AddedNumbers)
   -- the pointers among the values that go by reference lead to places that are there
   abbrev pub WellFormedFor : Ty → ℕ → List Ty → List Value → Type 0
   WellFormedFor owner m args values =
-      (cells : List Cell) → stored_args p (with_default p owner m values (member_of p owner m args)).params values ≡ Some cells → WellFormedRefs p k ms g r (by_ref_args (with_default p owner m values (member_of p owner m args)).params (ValuesOf p k ms g r cells))
+      (cells : List Cell) → stored_args p (with_default p owner m values (member_of p owner m args)).params values ≡ Some cells → WellFormedRefs p k ms g r (by_ref_args (with_default p owner m values (member_of p owner m args)).params (values_of cells))
 
   -- how many steps a call may take in a frame over n others
   abbrev pub call_cost : ℕ → ℕ

@@ -19,6 +19,9 @@ use Rattle.splice_facts.specs.WellFormed.{WellFormedPointer}
 use Rattle.splice_facts.specs.Related.{Rewritten, written, bounds, Under, AllStand, count_groups}
 use Rattle.simulation_steps.specs.Steps.{BesideIn}
 
+abbrev pub values_of : List Cell → List Value
+values_of cells = map (λ (c : Cell). c.value) cells
+
 module _ (p : Program) (k : Contracts) (ms : List MethodDesc) (g : AddedNumbers) (r : Rewritten p k ms g) where
   -- n frames with their twins, c of them in groups, and worlds of a depth that are alike
   pub record Both (b b' : Continuation) (n c d : ℕ) (gs gs' : List Frame) (w w' : World) : Type 0 where
@@ -55,11 +58,8 @@ module _ (p : Program) (k : Contracts) (ms : List MethodDesc) (g : AddedNumbers)
   WellFormedRefs [] = Unit {0}
   WellFormedRefs (a ∷ rest) = ((q : Pointer) → pointer_in (out-Value a.1) ≡ Some q → WellFormedPointer (bounds p k ms g r) q) × WellFormedRefs rest
 
-  abbrev pub ValuesOf : List Cell → List Value
-  ValuesOf cells = map (λ (c : Cell). c.value) cells
-
   -- A call outside takes the same reply in both runs, records the same, and stores back what it gives by reference.
   abbrev pub AsksAlike : Type 0
   AsksAlike =
-      (b b' : Continuation) (m : Member) (values : List Value) (fs fs' : List Frame) (w : World) (ss : List Statics) → Under p k ms g r b b' fs fs' → AllStand p k ms g r fs → BesideIn p k ms g r w ss → ((cells : List Cell) → stored_args p m.params values ≡ Some cells → WellFormedRefs (by_ref_args m.params (ValuesOf cells)))
+      (b b' : Continuation) (m : Member) (values : List Value) (fs fs' : List Frame) (w : World) (ss : List Statics) → Under p k ms g r b b' fs fs' → AllStand p k ms g r fs → BesideIn p k ms g r w ss → ((cells : List Cell) → stored_args p m.params values ≡ Some cells → WellFormedRefs (by_ref_args m.params (values_of cells)))
       → BothAnswer b b' (length fs) (count_groups fs) w.depth (ask p m values fs w) (ask (written p k ms g r) m values fs' (beside ss w))

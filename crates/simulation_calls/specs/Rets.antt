@@ -1,5 +1,5 @@
 -- `ret` in both runs: at once, or lifted to the groups at exit (ECMA-335, III.3.57).
-use Rattle.std.specs.Prelude.{◌≡◌, ℕ, suc, ◌+◌, ◌*◌, true, List, length, Option, Some, None}
+use Rattle.std.specs.Prelude.{◌≡◌, ℕ, suc, ◌+◌, ◌*◌, true, false, List, length, Option, Some, None}
 use Rattle.cil_model.specs.declared.value.Value.{Value}
 use Rattle.cil_model.specs.declared.body.Instr.{Instr}
 use Rattle.cil_model.specs.declared.contract.Contracts.{Contracts}
@@ -9,14 +9,14 @@ use Rattle.cil_model.specs.NoContracts.{no_contracts}
 use Rattle.cil_semantics.specs.declared.state.Local.{Local}
 use Rattle.cil_semantics.specs.declared.state.World.{World}
 use Rattle.cil_semantics.specs.declared.state.Statics.{Statics}
-use Rattle.cil_semantics.specs.declared.state.ProgramPoint.TheVariants.{Rest}
+use Rattle.cil_semantics.specs.declared.state.ProgramPoint.TheVariants.{LeadIn, InGroup, Rest}
+use Rattle.cil_semantics.specs.declared.state.ProgramPoint.{ProgramPoint}
 use Rattle.cil_semantics.specs.declared.state.Frame.{Frame}
-use Rattle.cil_semantics.specs.State.{with_local}
 use Rattle.il_opcodes.specs.declared.class.Class.TheVariants as class
 use Rattle.il_opcodes.specs.Opcodes.{class_of}
 use Rattle.cil_semantics.specs.Contracted.{Plan}
 use Rattle.cil_semantics.specs.Unwind.{plan_at}
-use Rattle.cil_semantics.specs.Returns.{returned, returns, return_from, return_to}
+use Rattle.cil_semantics.specs.Returns.{returned, returns}
 use Rattle.cil_semantics.specs.Checks.{AddedNumbers}
 use Rattle.splice_facts.specs.Grown.{beside}
 use Rattle.splice_facts.specs.WellFormed.{WellFormedContinuation}
@@ -34,10 +34,17 @@ module _ (p : Program) (k : Contracts) (ms : List MethodDesc) (g : AddedNumbers)
     pub fine_back : WellFormedContinuation (bounds p k ms g r) f.continuation
     pub tries : (l : Local) (v : World) (ss2 : List Statics) → BesideIn p k ms g r v ss2 → TriesOn p k ms g r f.continuation l.args l.result fs fs' v ss2 (cost k p + per_frame p k ms g r (length fs))
 
+  -- no group comes at exit: without contracts, in the lead-in, and where nothing is checked at exit
+  abbrev pub NoExit : Option Plan → ProgramPoint → Type 0
+  NoExit None at = Unit {0}
+  NoExit (Some c) (LeadIn q) = Unit {0}
+  NoExit (Some c) (InGroup gr j q) = ⊥
+  NoExit (Some c) (Rest q) = has_exit p k (written p k ms g r) g r.types r.depths c ≡ false
+
   -- Where no group comes at exit, the copied `ret` returns the same.
   abbrev pub RetsAtOnce : Type 0
   RetsAtOnce =
-      (o : Option Plan) (f f' : Frame) (fs fs' : List Frame) (w : World) (ss : List Statics) → Ret f f' fs fs' w ss → plan_at k p f.method ≡ o → ((l : Local) → return_from p k o f.at (with_local l f) fs w ≡ return_to p k (with_local l f) fs w)
+      (f f' : Frame) (fs fs' : List Frame) (w : World) (ss : List Statics) → Ret f f' fs fs' w ss → NoExit (plan_at k p f.method) f.at
       → ReachesIn p k ms g r (3 * cost k p + per_frame p k ms g r (length fs)) (returns p k f fs w) (returns (written p k ms g r) no_contracts f' fs' (beside ss w))
 
   -- In the rest of a body whose exit is checked, the value is kept, and the postconditions and invariants come in both runs.
