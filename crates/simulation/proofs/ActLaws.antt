@@ -1,29 +1,27 @@
 -- One lemma for every instruction that is copied.
-use Rattle.std.proofs.Common.{◌≡◌, ℕ, zero, suc, ◌+◌, ◌-◌, ◌<◌, ◌≤◌, Bool, true, false, List, [], ◌∷◌, ◌++◌, length, Option, Some, None, refl, sym, ap, ◌∙◌, subst, arith}
+use Rattle.std.proofs.Common.{◌≡◌, ℕ, zero, suc, ◌<◌, Bool, true, false, List, [], ◌∷◌, ◌++◌, length, Option, Some, None, refl, ap, ◌∙◌, arith}
 use Rattle.std.specs.Prelude.{slice_get, slice_set, option_map, option_and_then, map, ℤ, pos, negsuc, nat_lt, nat_le, if◌then◌else◌, not, ◌&&◌, ◌||◌, codes}
 use Rattle.std.proofs.lemmas.Option.{slice_get-map}
 use Rattle.std.proofs.lemmas.List.{set-append_left}
 use Rattle.cil_base.specs.declared.token.Token.{Token}
 use Rattle.cil_model.specs.declared.ty.Ty.{Ty, out-Ty}
-use Rattle.cil_model.specs.declared.value.Value.{Value, out-Value, I4, I8, Native, Null, Obj, Ptr}
+use Rattle.cil_model.specs.declared.value.Value.{Value, out-Value, I4, I8, Native, Null, Ptr}
 use Rattle.cil_model.specs.declared.value.Value.TheOpen.{Value-F}
 use Rattle.cil_model.specs.declared.value.Pointer.{Pointer}
 use Rattle.cil_model.specs.declared.value.Pointer.TheVariants.{Local, Inside}
 use Rattle.cil_model.specs.declared.body.Instr.{Instr}
 use Rattle.cil_model.specs.declared.body.Operand.{Operand}
-use Rattle.cil_model.specs.declared.body.Operand.TheVariants.{Int, Index, Target, Targets, Tok}
+use Rattle.cil_model.specs.declared.body.Operand.TheVariants.{Int, Index, Target, Targets}
 use Rattle.cil_model.specs.declared.program.Program.{Program}
 use Rattle.cil_model.specs.declared.program.Meaning.{Meaning}
-use Rattle.cil_model.specs.declared.program.Meaning.TheVariants.{OfType, OfField, OfMethod, OfText, OfLocals}
+use Rattle.cil_model.specs.declared.program.Meaning.TheVariants.{OfType, OfField, OfMethod}
 use Rattle.cil_semantics.specs.Words.{maybe}
 use Rattle.cil_semantics.specs.Numbers as number
 use Rattle.cil_semantics.specs.Places as Places
 use Rattle.cil_semantics.specs.Acts as Acts
-use Rattle.il_opcodes.specs.declared.class.Storage.{Storage}
 use Rattle.cil_semantics.specs.declared.state.Cell.{Cell}
 use Rattle.cil_semantics.specs.Places.{set_cell}
 use Rattle.cil_model.specs.declared.value.Value.TheVariants as value
-use Rattle.cil_semantics.specs.State as state
 use Rattle.cil_semantics.specs.declared.state.Local.{Local as LocalState}
 use Rattle.cil_semantics.specs.declared.state.World.{World}
 use Rattle.cil_semantics.specs.declared.state.Statics.{Statics}

@@ -1,15 +1,13 @@
 -- A frame and its twin arrive at a place, and groups begin and end.
-use Rattle.std.proofs.Common.{◌≡◌, ◌≢◌, ℕ, zero, suc, ◌+◌, ◌*◌, ◌<◌, ◌≤◌, Bool, true, false, List, [], ◌∷◌, ◌++◌, length, Option, Some, None, refl, sym, ap, ◌∙◌, subst, arith, ⊎_elim}
-use Rattle.std.specs.Prelude.{slice_get, option_map, ◌==◌, if◌then◌else◌, filter, IsTrue, map}
+use Rattle.std.proofs.Common.{◌≡◌, ◌≢◌, ℕ, suc, ◌+◌, ◌*◌, ◌<◌, ◌≤◌, Bool, true, false, List, [], ◌∷◌, length, Option, Some, None, refl, sym, ap, ◌∙◌, subst, arith, ⊎_elim}
+use Rattle.std.specs.Prelude.{slice_get, ◌==◌, if◌then◌else◌, filter}
 use Rattle.std.proofs.lemmas.Bool.Decides.{eqb_tells}
-use Rattle.cil_model.specs.declared.value.Value.{Value, Obj}
 use Rattle.cil_model.specs.declared.body.Region.{Region}
 use Rattle.cil_model.specs.declared.contract.Contracts.{Contracts}
 use Rattle.cil_model.specs.declared.contract.Group.{Group}
 use Rattle.cil_model.specs.declared.contract.Group.TheVariants as group
 use Rattle.cil_model.specs.declared.program.Program.{Program}
 use Rattle.cil_model.specs.declared.program.MethodDesc.{MethodDesc}
-use Rattle.cil_model.specs.NoContracts.{no_contracts}
 use Rattle.cil_semantics.specs.Words.{maybe}
 use Rattle.cil_semantics.specs.declared.state.Cell.{Cell}
 use Rattle.cil_semantics.specs.declared.state.World.{World}
@@ -19,18 +17,15 @@ use Rattle.cil_semantics.specs.declared.state.ProgramPoint.{ProgramPoint}
 use Rattle.cil_semantics.specs.declared.state.ProgramPoint.TheVariants.{LeadIn, InGroup, Rest}
 use Rattle.cil_semantics.specs.declared.state.Handling.{Handling}
 use Rattle.cil_semantics.specs.declared.state.Frame.{Frame}
-use Rattle.cil_semantics.specs.State.{State, Next, Running, Ended, with_stack, with_local, raised, lowered}
+use Rattle.cil_semantics.specs.State.{State, Next, Running, with_stack, with_local, raised}
 use Rattle.cil_semantics.specs.declared.state.Continuation.{Continuation}
-use Rattle.cil_semantics.specs.Tokens.{Here}
 use Rattle.cil_semantics.specs.Contracted.{Piece, Plan, runs_at}
 use Rattle.cil_semantics.specs.Unwind.{begin_entry, begin_first, go_to_rest, body_of, plan_at, piece_at, here_of, place_in, moved_to, in_handler, handled_at, goes_at, arrive, arrive_in, next_piece, begin_piece, begin_group, begin_rest}
-use Rattle.cil_semantics.specs.Machine.{and_then, runs}
-use Rattle.machine_laws.specs.Simulation.{weight, Match}
 use Rattle.cil_semantics.specs.Checks.{AddedNumbers}
 use Rattle.machine_laws.specs.Same.{most_clauses}
 use Rattle.splice_facts.specs.Bodies.{with_methods}
 use Rattle.splice_facts.specs.Grown.{grow, beside}
-use Rattle.splice_facts.specs.Comes.{Comes, Reaches}
+use Rattle.splice_facts.specs.Comes.{Reaches}
 use Rattle.splice_facts.specs.Input.{PieceFacts, PiecesIf}
 use Rattle.splice_facts.specs.Layout.{Marks, Keeps, IsHere, CanArrive}
 use Rattle.splice_facts.specs.Spliced.{Beside, twin, stands, Arrives, OpensAt, ContinuesAt, Paired, Spliced, Groups, FitsGroup, cost}
@@ -245,7 +240,7 @@ module _ (p : Program) (k : Contracts) (ms : List MethodDesc) (g : AddedNumbers)
       let gs = groups_of h.method c e old in
       let door : (mk h.method).places (LeadIn q) ≡ (mk h.method).door group.Entry = ap (λ z. (mk h.method).places (LeadIn z)) eq ∙ sym gs.entry_door in
       let none = none_kept (plan h.method) (mk h.method) (rows h.method) (LeadIn q) (in_handler (body_of p' h.method).regions ((mk h.method).door group.Entry)) hs hs'
-          (λ h1 h2 y. same_number (body_of p' h.method).regions ((mk h.method).door group.Entry) h1 h2 y.handler ∙ gs.bare_doors group.Entry h1 y.low) pairs in
+      (λ h1 h2 y. same_number (body_of p' h.method).regions ((mk h.method).door group.Entry) h1 h2 y.handler ∙ gs.bare_doors group.Entry h1 y.low) pairs in
       ap (λ z. goes_at p' (tw h l0 ex q0 hs0 b) (Rest z) (grow ex l) hs' fs' (beside ss w)) door
       ∙ ap (λ z. Running (record { frames = tw h l ex ((mk h.method).door group.Entry) z b ∷ fs'; world = beside ss w })) none
 
@@ -262,11 +257,11 @@ module _ (p : Program) (k : Contracts) (ms : List MethodDesc) (g : AddedNumbers)
   arrives (Some c) h (LeadIn q) l l0 ex hs hs' hs0 q0 b fs fs' w ss e old can fits keeps pairs bes numbers deep under =
       ⊎_elim
       (λ t. subst (λ z. To (cst + lay (suc (length fs))) z (goes_at p' (tw h l0 ex q0 hs0 b) (Rest ((mk h.method).places (LeadIn q))) (grow ex l) hs' fs' (beside ss w))) (sym (pick_true (q == c.effective.lead_end) entered (goes_at p h (LeadIn q) l hs fs w) t.0))
-          (subst (λ z. To (cst + lay (suc (length fs))) entered z) (sym (at_door c h q l l0 ex hs hs' hs0 q0 b fs' w ss e old t.1 pairs))
-          (entry_begins c h l ex b fs fs' w ss e old fits keeps bes numbers deep under)))
+      (subst (λ z. To (cst + lay (suc (length fs))) entered z) (sym (at_door c h q l l0 ex hs hs' hs0 q0 b fs' w ss e old t.1 pairs))
+      (entry_begins c h l ex b fs fs' w ss e old fits keeps bes numbers deep under)))
       (λ t. subst (λ z. To (cst + lay (suc (length fs))) z (goes_at p' (tw h l0 ex q0 hs0 b) (Rest ((mk h.method).places (LeadIn q))) (grow ex l) hs' fs' (beside ss w))) (sym (pick_false (q == c.effective.lead_end) entered (goes_at p h (LeadIn q) l hs fs w) t.0))
-          (let lt : q < c.effective.lead_end = omega (arith, can, t.1) in
-          reaches_within p' E R f (lay (suc (length fs))) _ _ _ (omega arith) (goes_here h (LeadIn q) l l0 hs hs' hs0 q0 ex b fs fs' w ss old (subst (λ o. IsHere o (LeadIn q)) (sym e) lt) keeps pairs under bes)))
+      (let lt : q < c.effective.lead_end = omega (arith, can, t.1) in
+      reaches_within p' E R f (lay (suc (length fs))) _ _ _ (omega arith) (goes_here h (LeadIn q) l l0 hs hs' hs0 q0 ex b fs fs' w ss old (subst (λ o. IsHere o (LeadIn q)) (sym e) lt) keeps pairs under bes)))
       (eqb_tells q c.effective.lead_end)
     where
       entered : Next

@@ -1,6 +1,6 @@
 -- What two programs with the same types, fields and tokens answer.
-use Rattle.std.proofs.Common.{◌≡◌, ℕ, zero, suc, Bool, true, false, List, [], ◌∷◌, ◌++◌, refl, sym, ap, ◌∙◌}
-use Rattle.std.specs.Prelude.{Option, Some, None, map, option_map, option_and_then, slice_get, slice_set, option_to_list, length, ◌||◌, if◌then◌else◌}
+use Rattle.std.proofs.Common.{◌≡◌, ℕ, zero, suc, List, [], ◌∷◌, ◌++◌, refl, ap, ◌∙◌}
+use Rattle.std.specs.Prelude.{Option, Some, option_map, option_and_then, slice_get, slice_set, option_to_list, length, ◌||◌, if◌then◌else◌}
 use Rattle.cil_base.specs.declared.token.Token.{Token}
 use Rattle.cil_model.specs.declared.ty.Ty.{Ty}
 use Rattle.cil_model.specs.declared.ty.Under.{Under}
@@ -11,7 +11,6 @@ use Rattle.cil_model.specs.declared.program.MethodDesc.{MethodDesc}
 use Rattle.cil_semantics.specs.Words.{any}
 use Rattle.cil_semantics.specs.Types.{same_ty}
 use Rattle.cil_semantics.specs.Lookups.{method_of, is_sub, is_sub_within, chain_within, chain, chain_on, most_bases, base_of, interfaces_of}
-use Rattle.il_opcodes.specs.declared.class.Storage.{Storage}
 use Rattle.cil_semantics.specs.Places.{storage, stored, stored_within, stored_in, stored_by_storage, field_types, field_tys, fields_in, write_path, write_cell, default_within, default_by_storage, layout, layouts, own_layout, set_cell, new_cell, default_cell, default_cells}
 use Rattle.cil_semantics.specs.declared.state.Cell.{Cell}
 use Rattle.cil_semantics.specs.declared.state.Object.{Object}
@@ -21,7 +20,7 @@ use Rattle.cil_semantics.specs.Core.{Name}
 use Rattle.cil_semantics.specs.Acts.{handle_of, ty_name, member_name, arity, with_this}
 use Rattle.cil_model.specs.declared.program.Meaning.{Meaning}
 use Rattle.cil_model.specs.declared.program.Meaning.TheVariants.{OfMethod}
-use Rattle.cil_semantics.specs.Tokens.{Here, meaning_of, token_here, ref_type}
+use Rattle.cil_semantics.specs.Tokens.{Here, meaning_of, token_here}
 use Rattle.splice_facts.specs.Bodies.{with_methods, SameMethods}
 
 pub fun_ext : {A B : Type 0} {f h : A → B} → ((x : A) → f x ≡ h x) → f ≡ h

@@ -1,14 +1,10 @@
 -- A value goes to the frame below in both runs, which go on there.
-use Rattle.std.proofs.Common.{◌≡◌, ℕ, zero, suc, ◌+◌, ◌-◌, ◌*◌, ◌<◌, ◌≤◌, Bool, true, false, List, [], ◌∷◌, ◌++◌, length, Option, Some, None, refl, sym, ap, ◌∙◌, subst, arith, ⊎_elim}
-use Rattle.std.specs.Prelude.{slice_get, option_map, ◌==◌, if◌then◌else◌, filter, IsTrue, map}
-use Rattle.cil_model.specs.declared.ty.Ty.{Ty}
-use Rattle.cil_model.specs.declared.value.Value.{Value, Obj}
+use Rattle.std.proofs.Common.{◌≡◌, ℕ, suc, ◌+◌, ◌<◌, ◌≤◌, List, ◌∷◌, length, Option, Some, None, refl, sym, ap, ◌∙◌, subst, arith}
+use Rattle.cil_model.specs.declared.value.Value.{Value}
 use Rattle.cil_model.specs.declared.contract.Contracts.{Contracts}
 use Rattle.cil_model.specs.declared.contract.Group.{Group}
-use Rattle.cil_model.specs.declared.contract.Group.TheVariants as group
 use Rattle.cil_model.specs.declared.program.Program.{Program}
 use Rattle.cil_model.specs.declared.program.MethodDesc.{MethodDesc}
-use Rattle.cil_model.specs.declared.run.Outcome.TheVariants as outcome
 use Rattle.cil_model.specs.NoContracts.{no_contracts}
 use Rattle.cil_semantics.specs.Words.{maybe}
 use Rattle.cil_semantics.specs.declared.state.Cell.{Cell}
@@ -19,21 +15,19 @@ use Rattle.cil_semantics.specs.declared.state.ProgramPoint.{ProgramPoint}
 use Rattle.cil_semantics.specs.declared.state.ProgramPoint.TheVariants.{LeadIn, InGroup, Rest}
 use Rattle.cil_semantics.specs.declared.state.Handling.{Handling}
 use Rattle.cil_semantics.specs.declared.state.Frame.{Frame}
-use Rattle.cil_semantics.specs.State.{State, Next, Running, Ended, pushed, with_stack, with_local, raised, lowered}
+use Rattle.cil_semantics.specs.State.{Next, pushed}
 use Rattle.cil_semantics.specs.declared.state.Continuation.{Continuation}
-use Rattle.cil_semantics.specs.declared.state.Continuation.TheVariants.{BeginCallee, PushObject, ThrowObject}
-use Rattle.cil_semantics.specs.Contracted.{Piece, Plan, runs_at, pieces}
-use Rattle.cil_semantics.specs.Unwind.{begin_first, go_to_rest, body_of, plan_at, piece_at, here_of, place_in, moved_to, next_place, goes_at, arrive, arrive_in, next_piece, begin_piece, begin_group, begin_rest}
-use Rattle.cil_semantics.specs.Returns.{push_below, begin_below}
+use Rattle.cil_semantics.specs.Contracted.{Plan}
+use Rattle.cil_semantics.specs.Unwind.{body_of, plan_at, place_in, moved_to, next_place, goes_at, arrive, arrive_in}
+use Rattle.cil_semantics.specs.Returns.{push_below}
 use Rattle.cil_semantics.specs.Checks.{AddedNumbers}
 use Rattle.splice_facts.specs.Bodies.{with_methods}
 use Rattle.splice_facts.specs.Grown.{grow, beside}
 use Rattle.splice_facts.specs.Acting.{KeepsPlaces}
-use Rattle.splice_facts.specs.Comes.{Comes, Reaches}
-use Rattle.splice_facts.specs.Layout.{Marks, Keeps, IsHere, CanArrive, Onward}
+use Rattle.splice_facts.specs.Layout.{Marks, CanArrive}
 use Rattle.splice_facts.specs.Related.{Rewritten, HandlingPair, HandlingPairs, Waits, FramePair, Under, Frames, Related, laid_by, ValidFrame, ValidFrames, count_groups, in_group}
 use Rattle.splice_facts.specs.Related as Pairs
-use Rattle.splice_facts.proofs.ComesLaws.{no_plan, arrives_plain}
+use Rattle.splice_facts.proofs.ComesLaws.{arrives_plain}
 use Rattle.simulation.proofs.ArriveLaws as Arriving
 use Rattle.simulation.proofs.UnwindLaws as Unwinding
 use Rattle.simulation.proofs.UnwindLaws.{moved_pairs, as_many, begun}
@@ -84,7 +78,7 @@ module _ (p : Program) (k : Contracts) (ms : List MethodDesc) (g : AddedNumbers)
       let m = Pairs.marks_in p k ms g r h.method in
       let twin : Frame = Unwinding.tw p k ms g r h h.local pair.extra q h'.handling h'.continuation in
       let a = Arriving.arrives p k ms g r (plan_at k p h.method) h (moved_to t h.at) l h.local pair.extra h.handling h'.handling h'.handling q h'.continuation fs fs' w ss refl old can (fits_moved (Unwinding.Fits p k ms g r) h.at t h.thrown fits)
-          (record { wide = kept.locals ∙ pair.keeps.wide; caps = kept.captured ∙ pair.keeps.caps; typed = pair.keeps.typed; result = λ v e. pair.keeps.result v (sym kept.result ∙ e); thrown = pair.keeps.thrown }) (waits_moved (plan_at k p h.method) m (length (body_of p h.method).regions) h.at t h.handling h'.handling pair.waits) bes (as_many p k ms g r h.continuation h'.continuation fs fs' under) deep under in
+      (record { wide = kept.locals ∙ pair.keeps.wide; caps = kept.captured ∙ pair.keeps.caps; typed = pair.keeps.typed; result = λ v e. pair.keeps.result v (sym kept.result ∙ e); thrown = pair.keeps.thrown }) (waits_moved (plan_at k p h.method) m (length (body_of p h.method).regions) h.at t h.handling h'.handling pair.waits) bes (as_many p k ms g r h.continuation h'.continuation fs fs' under) deep under in
       let e1 = arrives_plain p' twin (Rest u) (change twin.local) h'.handling fs' (beside ss w) in
       let e2 = ap (λ z. goes_at p' twin (Rest u) z h'.handling fs' (beside ss w)) (grows h.local pair.extra ∙ ap (grow pair.extra) same) in
       subst (λ z. To (cst + lay (suc (length fs))) (arrive p k h (moved_to t h.at) l fs w) (arrive p' no_contracts z (Rest u) (change z.local) fs' (beside ss w))) (sym pair.same)

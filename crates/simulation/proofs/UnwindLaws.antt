@@ -1,24 +1,20 @@
 -- An exception goes down the frames of both runs.
-use Rattle.std.proofs.Common.{◌≡◌, ℕ, zero, suc, ◌+◌, ◌-◌, ◌*◌, ◌<◌, ◌≤◌, Bool, true, false, List, [], ◌∷◌, ◌++◌, length, Option, Some, None, refl, sym, ap, ◌∙◌, subst, arith, ⊎_elim}
-use Rattle.std.specs.Prelude.{slice_get, option_map, ◌==◌, if◌then◌else◌, filter, IsTrue, map}
+use Rattle.std.proofs.Common.{◌≡◌, ℕ, suc, ◌+◌, ◌-◌, ◌*◌, ◌<◌, ◌≤◌, Bool, true, false, List, [], ◌∷◌, length, Option, Some, None, refl, sym, ap, ◌∙◌, subst, arith}
+use Rattle.std.specs.Prelude.{option_map, if◌then◌else◌, IsTrue}
 use Rattle.cil_base.specs.declared.token.Token.{Token}
 use Rattle.cil_model.specs.declared.ty.Ty.{Ty}
-use Rattle.cil_model.specs.declared.value.Value.{Value, Obj}
+use Rattle.cil_model.specs.declared.value.Value.{Obj}
 use Rattle.cil_model.specs.declared.contract.Contracts.{Contracts}
 use Rattle.cil_model.specs.declared.contract.Group.{Group}
 use Rattle.cil_model.specs.declared.contract.Group.TheVariants as group
 use Rattle.cil_model.specs.declared.program.Program.{Program}
 use Rattle.cil_model.specs.declared.program.MethodDesc.{MethodDesc}
-use Rattle.cil_model.specs.declared.run.Outcome.TheVariants as outcome
 use Rattle.cil_model.specs.NoContracts.{no_contracts}
 use Rattle.cil_semantics.specs.Words.{maybe}
 use Rattle.cil_semantics.specs.Types.{same_ty}
 use Rattle.cil_semantics.specs.Places.{storage}
-use Rattle.cil_semantics.specs.Lookups.{method_of}
 use Rattle.cil_semantics.specs.Tokens.{as_type, meaning_of}
 use Rattle.cil_semantics.specs.declared.state.Cell.{Cell}
-use Rattle.cil_semantics.specs.declared.state.Object.{Object}
-use Rattle.cil_semantics.specs.declared.state.Init.{Init}
 use Rattle.cil_semantics.specs.declared.state.Init.TheVariants.{Failed}
 use Rattle.cil_semantics.specs.declared.state.World.{World}
 use Rattle.cil_semantics.specs.declared.state.Statics.{Statics}
@@ -29,7 +25,7 @@ use Rattle.cil_semantics.specs.declared.state.Cause.{Cause}
 use Rattle.cil_semantics.specs.declared.state.Cause.TheVariants.{Caught, Unwinding}
 use Rattle.cil_semantics.specs.declared.state.Handling.{Handling}
 use Rattle.cil_semantics.specs.declared.state.Frame.{Frame}
-use Rattle.cil_semantics.specs.State.{State, Next, Running, Ended, with_stack, with_local, raised, lowered, with_object, next_object}
+use Rattle.cil_semantics.specs.State.{Next, with_stack, with_local, raised, lowered, with_object, next_object}
 use Rattle.cil_semantics.specs.declared.state.Continuation.{Continuation}
 use Rattle.cil_semantics.specs.declared.state.Continuation.TheVariants.{BeginCallee, PushObject, ThrowObject}
 use Rattle.cil_semantics.specs.Contracted.{Piece, Plan, runs_at, pieces}
@@ -37,8 +33,8 @@ use Rattle.cil_semantics.specs.Unwind.{body_of, plan_at, piece_at, here_of, plac
 use Rattle.cil_semantics.specs.Checks.{AddedNumbers}
 use Rattle.machine_laws.specs.Same.{most_clauses}
 use Rattle.splice_facts.specs.Bodies.{with_methods}
-use Rattle.splice_facts.specs.Grown.{grow, beside}
-use Rattle.splice_facts.specs.Comes.{Comes, Reaches}
+use Rattle.splice_facts.specs.Grown.{beside}
+use Rattle.splice_facts.specs.Comes.{Comes}
 use Rattle.splice_facts.specs.WellFormed.{is_below}
 use Rattle.splice_facts.specs.Layout.{Marks, Keeps, IsHere, CanArrive}
 use Rattle.splice_facts.specs.Spliced.{Beside, twin, stands, Arrives, OpensAt, ContinuesAt, Paired, Spliced, Groups, FitsGroup, leaves_with, moved_found, is_guarded, cost}
@@ -47,7 +43,7 @@ use Rattle.splice_facts.specs.Related.{Rewritten, HandlingPair, HandlingPairs, W
 use Rattle.splice_facts.specs.Related as Pairs
 use Rattle.simulation.proofs.ProgramLaws.{fun_ext, sub_same}
 use Rattle.splice_facts.proofs.StaticLaws.{find_other, input, find_input, set_input, same_below}
-use Rattle.splice_facts.proofs.ComesLaws.{no_plan, reaches_by, reaches_within, reaches_at_once, found_piece, comes_at_once}
+use Rattle.splice_facts.proofs.ComesLaws.{no_plan, reaches_by, reaches_within, reaches_at_once, found_piece}
 use Rattle.simulation.proofs.ArriveLaws as Arriving
 use Rattle.simulation.proofs.ArriveLaws.{pick_true, pick_false, group_begins, groups_of, arrives_here, goes_here, rest_here}
 

@@ -1,16 +1,16 @@
 -- Calls of settled members in both runs.
-use Rattle.std.proofs.Common.{◌≡◌, ℕ, zero, suc, ◌+◌, ◌*◌, ◌<◌, ◌≤◌, Bool, true, false, List, [], ◌∷◌, ◌++◌, length, Option, Some, None, refl, sym, ap, ◌∙◌, subst, arith}
-use Rattle.std.specs.Prelude.{slice_get, option_map, option_and_then, ◌==◌, if◌then◌else◌, IsTrue, map, codes, not, ◌&&◌, ◌||◌, is_some, bytes_eq}
+use Rattle.std.proofs.Common.{◌≡◌, ℕ, suc, ◌+◌, ◌*◌, ◌<◌, ◌≤◌, Bool, true, false, List, [], ◌∷◌, length, Option, Some, None, refl, sym, ap, ◌∙◌, subst, arith}
+use Rattle.std.specs.Prelude.{slice_get, ◌==◌, if◌then◌else◌, IsTrue, map, codes, not, ◌&&◌, ◌||◌, is_some}
 use Rattle.cil_model.specs.declared.ty.Ty.{Ty, out-Ty}
 use Rattle.cil_model.specs.declared.value.Value.{Value, out-Value, Obj}
 use Rattle.cil_model.specs.declared.contract.Contracts.{Contracts}
 use Rattle.cil_model.specs.declared.program.Program.{Program}
 use Rattle.cil_model.specs.declared.program.MethodDesc.{MethodDesc}
 use Rattle.cil_model.specs.NoContracts.{no_contracts}
-use Rattle.cil_semantics.specs.Words.{maybe, any}
+use Rattle.cil_semantics.specs.Words.{any}
 use Rattle.cil_semantics.specs.Types.{under, same_ty, same_tys}
 use Rattle.cil_semantics.specs.Core.{Name, class_named, object_ty, string_ty, core_classes, contract_name, helper_name, event_name, event_params}
-use Rattle.cil_semantics.specs.Lookups.{type_of, method_of, args_of, is_sub}
+use Rattle.cil_semantics.specs.Lookups.{type_of, method_of, args_of}
 use Rattle.cil_semantics.specs.Dispatch.{has_bit}
 use Rattle.cil_semantics.specs.declared.state.Cell.{Cell}
 use Rattle.cil_semantics.specs.Places.{storage, is_void, default_value}
@@ -24,12 +24,12 @@ use Rattle.cil_semantics.specs.declared.state.Continuation.TheVariants.{Push}
 use Rattle.cil_semantics.specs.Acts.{ty_name, member_name}
 use Rattle.cil_semantics.specs.Unwind.{unwind, raise}
 use Rattle.cil_semantics.specs.Frames.{stuck, if_there, stored_args, param_types, enter}
-use Rattle.cil_semantics.specs.Outside.{Answer, Returned, Threw, Unfit, Member, ask, is_outside, member_of, default_reply, by_ref_args}
+use Rattle.cil_semantics.specs.Outside.{Answer, Returned, Threw, Unfit, Member, ask, is_outside, member_of, default_reply}
 use Rattle.cil_semantics.specs.Returns.{push_below}
 use Rattle.cil_semantics.specs.Calls.{is_event, CoreMember, Constructor, Equality, Concatenation, TextLength, IsNullOrEmpty, Quantifier, NotCore, is_core_exception, is_named, is_outside_type, are_strings, string_member, core_of, string_answer, count_units, texted, Texted, NullText, SomeText, NotText, first_texted, on_answer, with_default, outside_call, plain_call, call_core, call_member, quantify}
 use Rattle.cil_semantics.specs.Checks.{AddedNumbers}
 use Rattle.splice_facts.specs.Bodies.{with_methods}
-use Rattle.splice_facts.specs.Grown.{grow, beside}
+use Rattle.splice_facts.specs.Grown.{beside}
 use Rattle.splice_facts.specs.WellFormed.{is_below}
 use Rattle.splice_facts.specs.Related.{Rewritten, Under, count_groups}
 use Rattle.splice_facts.specs.Related as Pairs

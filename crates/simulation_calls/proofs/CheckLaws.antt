@@ -1,44 +1,30 @@
 -- A check in the run with contracts, and what stands for it in the plain run.
-use Rattle.std.proofs.Common.{◌≡◌, ℕ, zero, suc, ◌+◌, ◌<◌, ◌≤◌, Bool, true, false, List, [], ◌∷◌, ◌++◌, length, Option, Some, None, refl, sym, ap, ◌∙◌, subst, arith}
-use Rattle.std.specs.Prelude.{slice_get, option_map, option_and_then, ◌==◌, if◌then◌else◌, IsTrue, map, codes}
-use Rattle.cil_model.specs.declared.ty.Ty.{Ty, out-Ty, Prim, Outside}
-use Rattle.cil_model.specs.declared.ty.Ty as types
-use Rattle.cil_model.specs.declared.value.Value.{Value, out-Value, I4, Null, Text, Obj}
+use Rattle.std.proofs.Common.{◌≡◌, ℕ, Bool, true, false, List, [], ◌∷◌, Option, Some, None, refl, sym, subst}
+use Rattle.std.specs.Prelude.{if◌then◌else◌, map}
+use Rattle.cil_model.specs.declared.ty.Ty.{Ty, Prim}
+use Rattle.cil_model.specs.declared.value.Value.{Value, out-Value, Null, Text, Obj}
 use Rattle.cil_model.specs.declared.value.Value.TheOpen.{Value-F}
-use Rattle.cil_model.specs.declared.run.Reply.{Reply}
-use Rattle.cil_model.specs.declared.run.ReplyResult.{ReplyResult}
-use Rattle.cil_model.specs.declared.run.ReplyResult.TheVariants as reply
 use Rattle.cil_model.specs.declared.contract.Contracts.{Contracts}
 use Rattle.cil_model.specs.declared.contract.ClauseKind.{ClauseKind}
 use Rattle.cil_model.specs.declared.contract.ClauseKind.TheVariants as kind
 use Rattle.cil_model.specs.declared.program.Program.{Program}
 use Rattle.cil_model.specs.declared.program.MethodDesc.{MethodDesc}
 use Rattle.cil_semantics.specs.Words.{maybe}
-use Rattle.cil_semantics.specs.Core.{Name, class_named}
-use Rattle.cil_semantics.specs.Lookups.{is_sub, in_set}
 use Rattle.cil_semantics.specs.declared.state.Cell.{Cell}
-use Rattle.cil_semantics.specs.Places.{storage, stored}
-use Rattle.cil_semantics.specs.State as state
-use Rattle.cil_semantics.specs.declared.state.Object.{Object}
 use Rattle.cil_semantics.specs.declared.state.World.{World}
 use Rattle.cil_semantics.specs.declared.state.Statics.{Statics}
 use Rattle.cil_semantics.specs.declared.state.Frame.{Frame}
 use Rattle.cil_semantics.specs.State.{Next, with_object, next_object}
-use Rattle.cil_semantics.specs.declared.state.Continuation.{Continuation}
 use Rattle.cil_semantics.specs.declared.state.Continuation.TheVariants.{Push}
-use Rattle.cil_semantics.specs.Unwind.{unwind}
-use Rattle.cil_semantics.specs.Frames.{stored_args, stuck, if_there}
-use Rattle.cil_semantics.specs.Outside.{fits, by_ref_args, stored_back, Answer, Returned, Threw, Unfit, next_reply, Member, given, recorded, thrown_out, result_of, answered, ask}
+use Rattle.cil_semantics.specs.Outside.{by_ref_args, Answer, Returned, Threw, Unfit, Member, ask}
 use Rattle.cil_semantics.specs.Checks.{AddedNumbers, Failure, Sequel, event_member, trigger_member, label_text, number_value, contract_failure, throw_exception, made_type, triggered, fail_with, replied, reported, failing}
 use Rattle.simulation.proofs.ProgramLaws.{with_object_same}
 use Rattle.splice_facts.specs.Bodies.{with_methods}
-use Rattle.splice_facts.specs.Grown.{grow, beside}
+use Rattle.splice_facts.specs.Grown.{beside}
 use Rattle.splice_facts.specs.Spliced.{checking}
 use Rattle.splice_facts.specs.Related.{Rewritten, Under}
-use Rattle.splice_facts.specs.Related as Pairs
 use Rattle.simulation_calls.specs.Outside as Alike
 use Rattle.simulation_calls.specs.Failures as Failing
-use Rattle.simulation.proofs.ArriveLaws as Arriving
 use Rattle.simulation.proofs.UnwindLaws as Unwinding
 use Rattle.simulation_calls.proofs.OutsideLaws as Asking
 use Rattle.splice_facts.proofs.AskFrameLaws.{with_frames, ask_frames, event_plain, trigger_plain}

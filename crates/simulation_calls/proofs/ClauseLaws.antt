@@ -1,9 +1,6 @@
 -- The call that ends a clause, in both runs.
-use Rattle.std.proofs.Common.{◌≡◌, ℕ, zero, suc, ◌+◌, ◌-◌, ◌*◌, ◌<◌, ◌≤◌, Bool, true, false, List, [], ◌∷◌, ◌++◌, length, Option, Some, None, refl, sym, ap, ◌∙◌, subst, arith}
-use Rattle.std.specs.Prelude.{slice_get, option_map, option_and_then, ◌==◌, if◌then◌else◌, IsTrue}
-use Rattle.cil_model.specs.declared.ty.Ty.{Ty}
-use Rattle.cil_model.specs.declared.value.Value.{Value}
-use Rattle.cil_model.specs.declared.body.Instr.{Instr}
+use Rattle.std.proofs.Common.{◌≡◌, ℕ, suc, ◌+◌, ◌*◌, ◌<◌, ◌≤◌, false, List, [], ◌∷◌, length, Some, refl, sym, ap, ◌∙◌, subst, arith}
+use Rattle.std.specs.Prelude.{slice_get}
 use Rattle.cil_model.specs.declared.contract.Contracts.{Contracts}
 use Rattle.cil_model.specs.declared.contract.Group.{Group}
 use Rattle.cil_model.specs.declared.contract.Group.TheVariants as group
@@ -11,34 +8,25 @@ use Rattle.cil_model.specs.declared.program.Program.{Program}
 use Rattle.cil_model.specs.declared.program.MethodDesc.{MethodDesc}
 use Rattle.cil_model.specs.NoContracts.{no_contracts}
 use Rattle.cil_semantics.specs.declared.state.Cell.{Cell}
-use Rattle.cil_semantics.specs.State as state
 use Rattle.cil_semantics.specs.declared.state.Local.{Local as LocalState}
 use Rattle.cil_semantics.specs.declared.state.World.{World}
 use Rattle.cil_semantics.specs.declared.state.Statics.{Statics}
 use Rattle.cil_semantics.specs.declared.state.ProgramPoint.{ProgramPoint}
-use Rattle.cil_semantics.specs.declared.state.ProgramPoint.TheVariants.{LeadIn, InGroup, Rest}
+use Rattle.cil_semantics.specs.declared.state.ProgramPoint.TheVariants.{InGroup}
 use Rattle.cil_semantics.specs.declared.state.Frame.{Frame}
-use Rattle.cil_semantics.specs.State.{Next, Running, with_stack, with_local, lowered}
+use Rattle.cil_semantics.specs.State.{Next, Running, with_stack, with_local}
 use Rattle.cil_semantics.specs.declared.state.Continuation.{Continuation}
-use Rattle.cil_semantics.specs.Tokens.{meaning_here}
 use Rattle.cil_semantics.specs.Contracted.{Piece, Plan, pieces}
 use Rattle.cil_semantics.specs.Unwind.{plan_at, piece_at, here_of, unwind}
-use Rattle.cil_semantics.specs.Frames.{stuck, if_there}
 use Rattle.cil_semantics.specs.Returns.{piece_over}
-use Rattle.cil_semantics.specs.Checks.{AddedNumbers, Failure, Condition, Sequel, condition_in, check, goes_on_from, end_clause, throw_exception, made_type}
-use Rattle.cil_semantics.specs.ContractCalls.{contract_call, has_message}
-use Rattle.cil_semantics.specs.declared.contract_call.ContractCall.TheVariants.{EndsClause}
-use Rattle.cil_model.specs.declared.contract.ClauseKind.TheVariants as kind
+use Rattle.cil_semantics.specs.Checks.{AddedNumbers, Failure, Condition, check}
 use Rattle.splice_facts.specs.Bodies.{with_methods}
-use Rattle.splice_facts.specs.Grown.{grow, beside}
-use Rattle.splice_facts.specs.WellFormed.{WellFormedContinuation}
-use Rattle.splice_facts.specs.Layout.{Marks, Keeps, IsHere}
-use Rattle.splice_facts.specs.Spliced.{checking}
-use Rattle.splice_facts.specs.Spliced.{Paired, clause_failure, from_here, Checked, failure_cost, twin}
+use Rattle.splice_facts.specs.Grown.{beside}
+use Rattle.splice_facts.specs.Layout.{Marks}
+use Rattle.splice_facts.specs.Spliced.{clause_failure, from_here, Checked, failure_cost}
 use Rattle.splice_facts.specs.Related.{Rewritten, Under, FramePair, Waits, count_groups, in_group}
 use Rattle.splice_facts.specs.Related as Pairs
 use Rattle.simulation_calls.specs.Failures as Failing
-use Rattle.simulation_steps.specs.Steps as Steps
 use Rattle.simulation.proofs.ArriveLaws as Arriving
 use Rattle.simulation.proofs.ArriveLaws.{groups_of}
 use Rattle.simulation.proofs.UnwindLaws as Unwinding
@@ -102,16 +90,16 @@ module _ (p : Program) (k : Contracts) (ms : List MethodDesc) (g : AddedNumbers)
           let some : 0 < v.depth = omega (arith, e, z.count) in
           Returning.piece_is_over p k ms g r c gr j x h l ch.after b' fs fs' v ss2 (not_inline c gr j x z.piece) z.stays (fits_in gr j q h fs z.at z.stands) z.piece
           (record {
-              plan = z.plan;
-              old = (z.stands).old;
-              keeps = record { typed = (ch.keeps).typed; result = (ch.keeps).result; thrown = (ch.keeps).thrown; wide = (ch.keeps).wide; caps = (ch.keeps).caps };
-              under = z.under;
-              others = z.others;
-              own = (z.stands).initializes;
-              fine_back = z.fine_back;
-              deep = omega (arith, deep);
-              count = omega (arith, e, z.count);
-              tries = z.tries (with_stack l []);
+            plan = z.plan;
+            old = (z.stands).old;
+            keeps = record { typed = (ch.keeps).typed; result = (ch.keeps).result; thrown = (ch.keeps).thrown; wide = (ch.keeps).wide; caps = (ch.keeps).caps };
+            under = z.under;
+            others = z.others;
+            own = (z.stands).initializes;
+            fine_back = z.fine_back;
+            deep = omega (arith, deep);
+            count = omega (arith, e, z.count);
+            tries = z.tries (with_stack l []);
           }) bes deep some
 
       throws : (v : World) (ss2 : List Statics) (y : ℕ) → IsBeside v ss2 → v.depth ≡ w.depth → To (ending (length fs)) (unwind p k false (record h { local = l } ∷ fs) v y) (unwind p' no_contracts false (Unwinding.tw p k ms g r h l ch.after ch.seam [] b' ∷ fs') (beside ss2 v) y)
@@ -119,17 +107,17 @@ module _ (p : Program) (k : Contracts) (ms : List MethodDesc) (g : AddedNumbers)
           Unwinding.reach_within p k ms g r (2 * cst + lay (suc (length fs))) _ _ _ (omega arith)
           (unwinds_at p k ms g r (record h { local = l }) h.at ch.after [] ch.seam b' fs fs' v ss2 y
           (record {
-              old = (z.stands).old;
-              here = z.here;
-              belongs = ch.belongs;
-              keeps = record { typed = (ch.keeps).typed; result = (ch.keeps).result; thrown = (ch.keeps).thrown; wide = (ch.keeps).wide; caps = (ch.keeps).caps };
-              fits = (z.stands).fits;
-              waits = no_waits h.method gr j q h.at h.handling z.at z.bare;
-              under = z.under;
-              alike = bes;
-              numbers = as_many p k ms g r h.continuation b' fs fs' z.under;
-              deep = subst (λ d. d ≤ suc k.settings.guard) (sym e) z.deep;
-              count = e ∙ z.count ∙ sym (ap (λ a. in_group a + count_groups fs) z.at);
-              down = unwinds p k ms g r h.continuation b' fs fs' z.under z.others;
-              own = (z.stands).initializes;
+            old = (z.stands).old;
+            here = z.here;
+            belongs = ch.belongs;
+            keeps = record { typed = (ch.keeps).typed; result = (ch.keeps).result; thrown = (ch.keeps).thrown; wide = (ch.keeps).wide; caps = (ch.keeps).caps };
+            fits = (z.stands).fits;
+            waits = no_waits h.method gr j q h.at h.handling z.at z.bare;
+            under = z.under;
+            alike = bes;
+            numbers = as_many p k ms g r h.continuation b' fs fs' z.under;
+            deep = subst (λ d. d ≤ suc k.settings.guard) (sym e) z.deep;
+            count = e ∙ z.count ∙ sym (ap (λ a. in_group a + count_groups fs) z.at);
+            down = unwinds p k ms g r h.continuation b' fs fs' z.under z.others;
+            own = (z.stands).initializes;
           }))

@@ -1,7 +1,7 @@
 -- Calls outside in both runs.
-use Rattle.std.proofs.Common.{◌≡◌, ℕ, zero, suc, ◌+◌, ◌<◌, ◌≤◌, Bool, true, false, List, [], ◌∷◌, ◌++◌, length, Option, Some, None, refl, sym, ap, ◌∙◌, subst, arith}
-use Rattle.std.specs.Prelude.{slice_get, option_map, option_and_then, ◌==◌, if◌then◌else◌, IsTrue, map, codes}
-use Rattle.cil_model.specs.declared.ty.Ty.{Ty, out-Ty}
+use Rattle.std.proofs.Common.{◌≡◌, ℕ, zero, suc, Bool, true, false, List, [], ◌∷◌, length, Option, Some, None, refl, sym, ap, ◌∙◌, subst}
+use Rattle.std.specs.Prelude.{option_and_then, if◌then◌else◌, map, codes}
+use Rattle.cil_model.specs.declared.ty.Ty.{Ty}
 use Rattle.cil_model.specs.declared.value.Value.{Value, out-Value}
 use Rattle.cil_model.specs.declared.value.Value.TheOpen.{Value-F}
 use Rattle.cil_model.specs.declared.value.Pointer.{Pointer}
@@ -29,7 +29,7 @@ use Rattle.cil_semantics.specs.Frames.{stored_args, write}
 use Rattle.cil_semantics.specs.Outside.{fits_storage, fits_fields, fits_within, fits, refers_to, by_ref_args, pointer_in, stored_back, Answer, Returned, Threw, Unfit, next_reply, Member, given, recorded, thrown_out, result_of, answered, unfit, ask}
 use Rattle.cil_semantics.specs.Checks.{AddedNumbers}
 use Rattle.splice_facts.specs.Bodies.{with_methods}
-use Rattle.splice_facts.specs.Grown.{grow, beside}
+use Rattle.splice_facts.specs.Grown.{beside}
 use Rattle.splice_facts.specs.WellFormed.{WellFormedPointer}
 use Rattle.splice_facts.specs.Related.{Rewritten, Under}
 use Rattle.splice_facts.specs.Related as Pairs

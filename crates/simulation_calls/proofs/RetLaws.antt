@@ -1,7 +1,6 @@
 -- ret in both runs: at once, or behind the groups at exit.
-use Rattle.std.proofs.Common.{◌≡◌, ℕ, zero, suc, ◌+◌, ◌*◌, ◌<◌, ◌≤◌, Bool, true, false, List, [], ◌∷◌, ◌++◌, length, Option, Some, None, refl, sym, ap, ◌∙◌, subst, arith}
-use Rattle.std.specs.Prelude.{slice_get, IsTrue, ◌||◌, if◌then◌else◌}
-use Rattle.cil_model.specs.declared.ty.Ty.{Ty}
+use Rattle.std.proofs.Common.{◌≡◌, ℕ, suc, ◌+◌, ◌*◌, Bool, true, false, List, [], ◌∷◌, length, Option, Some, None, refl, sym, ap, ◌∙◌, subst, arith}
+use Rattle.std.specs.Prelude.{◌||◌, if◌then◌else◌}
 use Rattle.cil_model.specs.declared.value.Value.{Value}
 use Rattle.cil_model.specs.declared.body.Instr.{Instr}
 use Rattle.cil_model.specs.declared.contract.Contracts.{Contracts}
@@ -10,33 +9,28 @@ use Rattle.cil_model.specs.declared.contract.Group.TheVariants as group
 use Rattle.cil_model.specs.declared.program.Program.{Program}
 use Rattle.cil_model.specs.declared.program.MethodDesc.{MethodDesc}
 use Rattle.cil_model.specs.NoContracts.{no_contracts}
-use Rattle.cil_semantics.specs.declared.state.Cell.{Cell}
-use Rattle.cil_semantics.specs.State as state
 use Rattle.cil_semantics.specs.declared.state.Local.{Local as LocalState}
 use Rattle.cil_semantics.specs.declared.state.World.{World}
 use Rattle.cil_semantics.specs.declared.state.Statics.{Statics}
 use Rattle.cil_semantics.specs.declared.state.ProgramPoint.{ProgramPoint}
 use Rattle.cil_semantics.specs.declared.state.ProgramPoint.TheVariants.{LeadIn, InGroup, Rest}
 use Rattle.cil_semantics.specs.declared.state.Frame.{Frame}
-use Rattle.cil_semantics.specs.State.{Next, Running, with_stack, with_local, raised}
-use Rattle.cil_semantics.specs.declared.state.Continuation.{Continuation}
+use Rattle.cil_semantics.specs.State.{Next, with_stack, with_local, raised}
 use Rattle.il_opcodes.specs.declared.class.Class.TheVariants as class
 use Rattle.il_opcodes.specs.Opcodes.{class_of}
 use Rattle.cil_semantics.specs.Contracted.{Piece, Plan, runs_at, pieces}
-use Rattle.cil_semantics.specs.Unwind.{plan_at, here_of, begin_group, begin_piece, next_piece, first_from, takes_part}
-use Rattle.cil_semantics.specs.Frames.{stuck, if_there}
+use Rattle.cil_semantics.specs.Unwind.{plan_at, begin_group, begin_piece, first_from, takes_part}
+use Rattle.cil_semantics.specs.Frames.{if_there}
 use Rattle.cil_semantics.specs.Returns.{return_to, return_with, return_from, returns, returned, begin_invariants}
 use Rattle.cil_semantics.specs.Checks.{AddedNumbers}
 use Rattle.splice_facts.specs.Bodies.{with_methods}
-use Rattle.splice_facts.specs.Grown.{grow, beside}
-use Rattle.splice_facts.specs.WellFormed.{WellFormedContinuation, is_below}
+use Rattle.splice_facts.specs.Grown.{beside}
 use Rattle.splice_facts.specs.Layout.{Marks, Keeps, IsHere}
 use Rattle.splice_facts.specs.Spliced.{Paired, from_here}
 use Rattle.splice_facts.specs.Spliced as Spliced
 use Rattle.splice_facts.specs.Related.{Rewritten, Under, FramePair, count_groups, in_group}
 use Rattle.splice_facts.specs.Related as Pairs
 use Rattle.simulation_calls.specs.Rets as Rets
-use Rattle.simulation_steps.specs.Steps as Steps
 use Rattle.splice_facts.proofs.ComesLaws.{no_plan}
 use Rattle.simulation.proofs.ArriveLaws as Arriving
 use Rattle.simulation.proofs.ArriveLaws.{group_begins, groups_of}
@@ -119,11 +113,11 @@ module _ (p : Program) (k : Contracts) (ms : List MethodDesc) (g : AddedNumbers)
           let a = (groups_of p k ms g r f.method c e ((z.top).stands).old).lifts f fs fs' w ((z.top).pair.extra) ss f'.continuation f'.handling q i v refl exits at here there is scene current s (just v s) in
           let over = begin_invariants p k c (with_local (with_stack l []) f) fs w in
           let b = group_begins p k ms g r c group.Exit f (with_stack l []) a.extra f'.continuation fs fs' w a.statics over e ((z.top).stands).old (λ d. cc d) refl (subst (λ o. Unwinding.Fits p k ms g r group.Exit o) (sym bare) tt) a.keeps a.beside (as_many p k ms g r f.continuation f'.continuation fs fs' (z.top).under) (z.top).deep (z.top).under (3 * cst + lay (suc (length fs))) (omega arith)
-              (λ a1. Unwinding.reach_within p k ms g r (cst + (2 * cst + lay (suc (length fs)))) _ _ _ (omega arith)
-              (Unwinding.reach_by p k ms g r cst (2 * cst + lay (suc (length fs))) _ _ _ a1.comes
-              (subst (λ y. To (2 * cst + lay (suc (length fs))) over (Spliced.stands p k p' g r.types r.depths f (with_stack l []) a1.extra y f'.continuation fs' w a1.statics)) (sym (groups_of p k ms g r f.method c e ((z.top).stands).old).then_invariants)
-              (Returning.invariants_begin p k ms g r c f (with_stack l []) a1.extra f'.continuation fs fs' w a1.statics (exits, Rattle.splice_facts.proofs.StoreLaws.returned_stays p f f.local.stack v s) refl bare a1.beside
-              (record { plan = e; old = ((z.top).stands).old; keeps = a1.keeps; under = (z.top).under; others = (z.top).others; own = ((z.top).stands).initializes; fine_back = z.fine_back; deep = (z.top).deep; count = z.outside; tries = z.tries (with_stack l []) }))))) in
+          (λ a1. Unwinding.reach_within p k ms g r (cst + (2 * cst + lay (suc (length fs)))) _ _ _ (omega arith)
+          (Unwinding.reach_by p k ms g r cst (2 * cst + lay (suc (length fs))) _ _ _ a1.comes
+          (subst (λ y. To (2 * cst + lay (suc (length fs))) over (Spliced.stands p k p' g r.types r.depths f (with_stack l []) a1.extra y f'.continuation fs' w a1.statics)) (sym (groups_of p k ms g r f.method c e ((z.top).stands).old).then_invariants)
+          (Returning.invariants_begin p k ms g r c f (with_stack l []) a1.extra f'.continuation fs fs' w a1.statics (exits, Rattle.splice_facts.proofs.StoreLaws.returned_stays p f f.local.stack v s) refl bare a1.beside
+          (record { plan = e; old = ((z.top).stands).old; keeps = a1.keeps; under = (z.top).under; others = (z.top).others; own = ((z.top).stands).initializes; fine_back = z.fine_back; deep = (z.top).deep; count = z.outside; tries = z.tries (with_stack l []) }))))) in
           Unwinding.reach_within p k ms g r (cst + (3 * cst + lay (suc (length fs)))) _ _ _ (omega arith)
           (Unwinding.reach_by p k ms g r cst (3 * cst + lay (suc (length fs))) _ _ _ a.comes
           (subst (λ y. To (3 * cst + lay (suc (length fs))) y (Spliced.stands p k p' g r.types r.depths f (with_stack l []) a.extra ((mk f.method).door group.Exit) f'.continuation fs' w a.statics))

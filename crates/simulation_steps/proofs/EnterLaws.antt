@@ -1,12 +1,10 @@
 -- New frames in both runs, behind their types' initializers.
-use Rattle.std.proofs.Common.{◌≡◌, ℕ, zero, suc, ◌+◌, ◌-◌, ◌*◌, ◌<◌, ◌≤◌, Bool, true, false, List, [], ◌∷◌, ◌++◌, length, Option, Some, None, refl, sym, ap, ◌∙◌, subst, arith, append_assoc}
-use Rattle.std.specs.Prelude.{slice_get, option_map, option_and_then, ◌==◌, if◌then◌else◌, IsTrue, map, find, not, ◌&&◌, ◌||◌, bytes_eq, codes, is_some}
+use Rattle.std.proofs.Common.{◌≡◌, ℕ, suc, ◌+◌, ◌*◌, ◌<◌, ◌≤◌, Bool, true, false, List, [], ◌∷◌, ◌++◌, length, Option, Some, None, refl, sym, ap, ◌∙◌, subst, arith}
+use Rattle.std.specs.Prelude.{option_map, option_and_then, if◌then◌else◌, IsTrue, map, find, not, ◌&&◌, ◌||◌, bytes_eq, codes, is_some}
 use Rattle.std.proofs.lemmas.List.{append-nil}
 use Rattle.cil_model.specs.declared.ty.Ty.{Ty}
-use Rattle.cil_model.specs.declared.value.Value.{Value, Obj}
+use Rattle.cil_model.specs.declared.value.Value.{Value}
 use Rattle.cil_model.specs.declared.contract.Contracts.{Contracts}
-use Rattle.cil_model.specs.declared.contract.Group.{Group}
-use Rattle.cil_model.specs.declared.contract.Group.TheVariants as group
 use Rattle.cil_model.specs.declared.program.Program.{Program}
 use Rattle.cil_model.specs.declared.program.MethodDesc.{MethodDesc}
 use Rattle.cil_model.specs.NoContracts.{no_contracts}
@@ -16,30 +14,27 @@ use Rattle.cil_base.specs.declared.token.Token.{Token}
 use Rattle.cil_semantics.specs.Tokens.{Here, local_tys, locals_in, meaning_of}
 use Rattle.cil_semantics.specs.Dispatch.{methods_of}
 use Rattle.cil_semantics.specs.declared.state.Cell.{Cell}
-use Rattle.cil_semantics.specs.Places.{default_cell, default_cells, storage, is_reference, new_cell}
-use Rattle.cil_semantics.specs.State as state
+use Rattle.cil_semantics.specs.Places.{default_cell, default_cells, is_reference, new_cell}
 use Rattle.cil_semantics.specs.declared.state.World.{World}
 use Rattle.cil_semantics.specs.declared.state.Statics.{Statics}
 use Rattle.cil_semantics.specs.declared.state.ProgramPoint.{ProgramPoint}
 use Rattle.cil_semantics.specs.declared.state.ProgramPoint.TheVariants.{LeadIn, InGroup, Rest}
-use Rattle.cil_semantics.specs.declared.state.Handling.{Handling}
 use Rattle.cil_semantics.specs.declared.state.Frame.{Frame}
 use Rattle.cil_semantics.specs.State.{Next}
 use Rattle.cil_semantics.specs.declared.state.Continuation.{Continuation}
 use Rattle.cil_semantics.specs.declared.state.Continuation.TheVariants.{BeginCallee}
-use Rattle.cil_semantics.specs.declared.state.Init.{Init}
 use Rattle.cil_semantics.specs.declared.state.Init.TheVariants.{Begun}
 use Rattle.cil_semantics.specs.Contracted.{Plan, locals_of}
-use Rattle.cil_semantics.specs.Unwind.{body_of, plan_at, here_of, moved_to, goes_at, arrive, arrive_in, hasnt_begun, find_statics, set_statics, unwind}
-use Rattle.cil_semantics.specs.Frames.{stuck, if_there, static_cells, initializer, Initializer, Ready, FailedWith, ToRun, initializer_state, is_initializer, with_begun, this_type, param_types, stored_args, clause_tys, captured_tys, first_place, frame_with, begin, initializer_frame, begin_behind, is_use, begin_use, enter}
+use Rattle.cil_semantics.specs.Unwind.{body_of, plan_at, moved_to, goes_at, hasnt_begun, find_statics, set_statics, unwind}
+use Rattle.cil_semantics.specs.Frames.{if_there, static_cells, initializer, Initializer, Ready, FailedWith, ToRun, initializer_state, is_initializer, with_begun, this_type, param_types, stored_args, clause_tys, captured_tys, first_place, frame_with, begin, initializer_frame, begin_behind, is_use, begin_use, enter}
 use Rattle.cil_semantics.specs.Checks.{AddedNumbers}
 use Rattle.splice_facts.specs.Bodies.{with_methods}
 use Rattle.splice_facts.specs.Grown.{grow, beside}
 use Rattle.splice_facts.specs.WellFormed.{is_below}
-use Rattle.splice_facts.specs.Layout.{Marks, Keeps, IsHere, CanArrive}
+use Rattle.splice_facts.specs.Layout.{Marks, CanArrive}
 use Rattle.splice_facts.specs.Related.{Rewritten, HandlingPairs, Waits, FramePair, Under, count_groups}
 use Rattle.splice_facts.specs.Related as Pairs
-use Rattle.simulation.proofs.ProgramLaws.{fun_ext, storage_same, default_same, default_cells_same, new_cell_same}
+use Rattle.simulation.proofs.ProgramLaws.{fun_ext, storage_same, default_cells_same, new_cell_same}
 use Rattle.splice_facts.proofs.ComesLaws.{no_plan, arrives_plain}
 use Rattle.simulation.proofs.ArriveLaws as Arriving
 use Rattle.simulation.proofs.UnwindLaws as Unwinding

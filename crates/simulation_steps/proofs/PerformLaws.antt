@@ -1,12 +1,9 @@
 -- Acts that stay in the frame, or leave it by an exception, performed in both runs.
-use Rattle.std.proofs.Common.{◌≡◌, ℕ, zero, suc, ◌+◌, ◌-◌, ◌*◌, ◌<◌, ◌≤◌, Bool, true, false, List, [], ◌∷◌, ◌++◌, length, Option, Some, None, refl, sym, ap, ◌∙◌, subst, arith, ⊎_elim}
-use Rattle.std.specs.Prelude.{slice_get, option_map, option_and_then, ◌==◌, if◌then◌else◌, filter, IsTrue, map}
-use Rattle.cil_model.specs.declared.ty.Ty.{Ty}
-use Rattle.cil_model.specs.declared.value.Value.{Value, Obj, Ptr}
+use Rattle.std.proofs.Common.{◌≡◌, ℕ, suc, ◌+◌, ◌*◌, ◌<◌, ◌≤◌, false, List, [], ◌∷◌, length, Option, Some, None, refl, sym, ap, ◌∙◌, subst, arith}
+use Rattle.std.specs.Prelude.{option_map, option_and_then, IsTrue}
+use Rattle.cil_model.specs.declared.value.Value.{Value, Ptr}
 use Rattle.cil_model.specs.declared.value.Pointer.{Pointer}
 use Rattle.cil_model.specs.declared.contract.Contracts.{Contracts}
-use Rattle.cil_model.specs.declared.contract.Group.{Group}
-use Rattle.cil_model.specs.declared.contract.Group.TheVariants as group
 use Rattle.cil_model.specs.declared.program.Program.{Program}
 use Rattle.cil_model.specs.declared.program.MethodDesc.{MethodDesc}
 use Rattle.cil_model.specs.declared.run.Outcome.TheVariants as outcome
@@ -17,7 +14,6 @@ use Rattle.il_opcodes.specs.declared.class.Storage.{Storage}
 use Rattle.cil_semantics.specs.Places.{storage}
 use Rattle.cil_semantics.specs.declared.state.Object.{Object}
 use Rattle.simulation.proofs.ProgramLaws.{with_object_same}
-use Rattle.cil_semantics.specs.declared.state.Cell.{Cell}
 use Rattle.cil_semantics.specs.Places.{seen_as}
 use Rattle.cil_semantics.specs.declared.state.World.{World}
 use Rattle.cil_semantics.specs.declared.state.Statics.{Statics}
@@ -28,33 +24,29 @@ use Rattle.cil_semantics.specs.declared.state.Handling.{Handling}
 use Rattle.cil_semantics.specs.declared.state.Cause.{Cause}
 use Rattle.cil_semantics.specs.declared.state.Cause.TheVariants.{Caught, Unwinding, Leaving}
 use Rattle.cil_semantics.specs.declared.state.Frame.{Frame}
-use Rattle.cil_semantics.specs.State.{State, Next, Running, Ended, pushed, with_stack, with_local, raised, lowered, with_object, with_objects, next_object}
+use Rattle.cil_semantics.specs.State.{Next, Ended, pushed, with_stack, with_object, with_objects, next_object}
 use Rattle.cil_semantics.specs.declared.state.Continuation.{Continuation}
-use Rattle.cil_semantics.specs.declared.state.Continuation.TheVariants.{Push, BeginCallee, PushObject, ThrowObject}
+use Rattle.cil_semantics.specs.declared.state.Continuation.TheVariants.{Push}
 use Rattle.cil_semantics.specs.declared.state.Access.{Access}
 use Rattle.cil_semantics.specs.declared.state.Access.TheVariants.{Read, Write, PointTo}
-use Rattle.cil_semantics.specs.Contracted.{Piece, Plan, runs_at, pieces}
-use Rattle.cil_semantics.specs.Unwind.{body_of, plan_at, piece_at, here_of, place_in, moved_to, next_place, goes_at, arrive, arrive_in, hasnt_begun, unwind, raise, innermost, leave, leave_through, left_from, resume, resume_cause, throws_in}
-use Rattle.cil_semantics.specs.Frames.{stuck, if_there, read, write, go_on, load, store, copy, use_static, go_on_top}
+use Rattle.cil_semantics.specs.Unwind.{body_of, plan_at, moved_to, next_place, goes_at, arrive, unwind, raise, innermost, leave, leave_through, left_from, resume, resume_cause, throws_in}
+use Rattle.cil_semantics.specs.Frames.{if_there, read, write, go_on, load, store, copy, use_static, go_on_top}
 use Rattle.cil_semantics.specs.Returns.{push_below}
-use Rattle.cil_semantics.specs.Acts as Acts
 use Rattle.cil_semantics.specs.Checks.{AddedNumbers}
 use Rattle.splice_facts.specs.Bodies.{with_methods}
 use Rattle.splice_facts.specs.Grown.{grow, beside}
-use Rattle.splice_facts.specs.Comes.{Comes, Reaches}
 use Rattle.splice_facts.specs.WellFormed.{WellFormedPointer, WellFormedAccess}
 use Rattle.splice_facts.specs.Acting.{KeepsPlaces}
-use Rattle.splice_facts.specs.Layout.{Marks, Keeps, IsHere, CanArrive, Onward}
+use Rattle.splice_facts.specs.Layout.{Marks, IsHere, CanArrive, Onward}
 use Rattle.splice_facts.specs.Related.{Rewritten, HandlingPair, HandlingPairs, Waits, FramePair, Under, Frames, Related, laid_by, count_groups, in_group}
 use Rattle.splice_facts.specs.Related as Pairs
 use Rattle.simulation_steps.specs.Steps as Steps
-use Rattle.splice_facts.proofs.ComesLaws.{no_plan, arrives_plain}
+use Rattle.splice_facts.proofs.ComesLaws.{arrives_plain}
 use Rattle.simulation.proofs.ArriveLaws as Arriving
 use Rattle.simulation.proofs.UnwindLaws as Unwinding
 use Rattle.simulation.proofs.UnwindLaws.{as_many, begun, unwinds}
 use Rattle.simulation.proofs.PushLaws as Pushing
 use Rattle.simulation.proofs.PushLaws.{stale_arrive, moves, pushes}
-use Rattle.simulation_steps.proofs.PointerLaws as Pointing
 use Rattle.simulation_steps.proofs.PointerLaws.{reads, writes, twins, pair_changed, stands_changed}
 
 -- going on is pushing nothing, or a value, in the frame itself
@@ -200,7 +192,11 @@ module _ (p : Program) (k : Contracts) (ms : List MethodDesc) (g : AddedNumbers)
   abbrev pub with_all : (os : List Object) (f f' : Frame) (fs fs' : List Frame) (w : World) (ss : List Statics) → Top f f' fs fs' w ss → Top f f' fs fs' (with_objects p os w) ss
   with_all os f f' fs fs' w ss t =
       record {
-        pair = t.pair; here = t.here; under = t.under; stands = t.stands; others = t.others;
+        pair = t.pair;
+        here = t.here;
+        under = t.under;
+        stands = t.stands;
+        others = t.others;
         alike = made_alike os w ss t.alike;
         deep = subst (λ d. d ≤ suc k.settings.guard) (sym (made_depth os w)) t.deep;
         count = made_depth os w ∙ t.count;
@@ -267,7 +263,7 @@ module _ (p : Program) (k : Contracts) (ms : List MethodDesc) (g : AddedNumbers)
   leaves_by None None f f' fs fs' w ss hs hs' q q' u t no1 pairs ws here bel can e lands =
       let h1 = f'.handling in
       let a = Arriving.arrives p k ms g r (plan_at k p f.method) f (moved_to u f.at) (with_stack f.local []) f.local (t.pair).extra hs hs' h1 ((mk f.method).places f.at) f'.continuation fs fs' w ss refl can_old can (Pushing.fits_moved (Unwinding.Fits p k ms g r) f.at u f.thrown (t.stands).fits)
-          (record { typed = (t.pair).keeps.typed; result = (t.pair).keeps.result; thrown = (t.pair).keeps.thrown; wide = (t.pair).keeps.wide; caps = (t.pair).keeps.caps }) (Pushing.waits_moved (plan_at k p f.method) (mk f.method) (rows f.method) f.at u hs hs' ws) t.alike (as_many p k ms g r f.continuation f'.continuation fs fs' t.under) t.deep t.under in
+      (record { typed = (t.pair).keeps.typed; result = (t.pair).keeps.result; thrown = (t.pair).keeps.thrown; wide = (t.pair).keeps.wide; caps = (t.pair).keeps.caps }) (Pushing.waits_moved (plan_at k p f.method) (mk f.method) (rows f.method) f.at u hs hs' ws) t.alike (as_many p k ms g r f.continuation f'.continuation fs fs' t.under) t.deep t.under in
       subst (λ z. To (cst + lay (suc (length fs))) (leave_through p k None f hs q u fs w) (leave_through p' no_contracts None z hs' q' ((mk f.method).places (moved_to u f.at)) fs' (beside ss w))) (sym (t.pair).same)
       (subst (λ z. To (cst + lay (suc (length fs))) (leave_through p k None f hs q u fs w) z) (sym (arrives_plain p' (Unwinding.tw p k ms g r f f.local (t.pair).extra ((mk f.method).places f.at) h1 f'.continuation) (Rest ((mk f.method).places (moved_to u f.at))) (grow (t.pair).extra (with_stack f.local [])) hs' fs' (beside ss w))) a)
     where
@@ -285,7 +281,7 @@ module _ (p : Program) (k : Contracts) (ms : List MethodDesc) (g : AddedNumbers)
       let at2 = moved_to x.1.handler_from f.at in
       let first : HandlingPair (plan_at k p f.method) (mk f.method) (rows f.method) f.at new new' = record { handler = e0; next = ap (λ j. j + 1) e0; cause = refl; here = here; belongs = bel; leads = can; low = l.1 } in
       let a = Arriving.goes_here p k ms g r f at2 (with_stack f.local []) f.local (new ∷ hs) (new' ∷ hs') f'.handling ((mk f.method).places f.at) (t.pair).extra f'.continuation fs fs' w ss (t.stands).old l.0 (record { typed = (t.pair).keeps.typed; result = (t.pair).keeps.result; thrown = (t.pair).keeps.thrown; wide = (t.pair).keeps.wide; caps = (t.pair).keeps.caps })
-          (as_waits f.at no1 (new ∷ hs) (new' ∷ hs') (Unwinding.moved_pairs (plan_at k p f.method) (mk f.method) (rows f.method) f.at x.1.handler_from (new ∷ hs) (new' ∷ hs') no1 (first, pairs))) t.under t.alike in
+      (as_waits f.at no1 (new ∷ hs) (new' ∷ hs') (Unwinding.moved_pairs (plan_at k p f.method) (mk f.method) (rows f.method) f.at x.1.handler_from (new ∷ hs) (new' ∷ hs') no1 (first, pairs))) t.under t.alike in
       Unwinding.reach_within p k ms g r (lay (suc (length fs))) _ _ _ (omega arith)
       (subst (λ y. To (lay (suc (length fs))) (leave_through p k (Some x) f hs q u fs w) (leave_through p' no_contracts (Some x') y hs' q' ((mk f.method).places (moved_to u f.at)) fs' (beside ss w))) (sym (t.pair).same)
       (subst (λ y. To (lay (suc (length fs))) (leave_through p k (Some x) f hs q u fs w) (goes_at p' (Unwinding.tw p k ms g r f f.local (t.pair).extra ((mk f.method).places f.at) f'.handling f'.continuation) (Rest y) (grow (t.pair).extra (with_stack f.local [])) (new' ∷ hs') fs' (beside ss w))) (sym e1) a))

@@ -1,10 +1,10 @@
 -- What stands where a pointer leads, and stores through pointers, in frames and their twins.
-use Rattle.std.proofs.Common.{◌≡◌, ℕ, zero, suc, ◌+◌, ◌<◌, ◌≤◌, Bool, true, false, List, [], ◌∷◌, ◌++◌, length, Option, Some, None, refl, sym, ap, ◌∙◌, subst, arith, ⊎_elim}
-use Rattle.std.specs.Prelude.{slice_get, slice_set, option_map, option_and_then, ◌==◌, if◌then◌else◌, filter, IsTrue, map}
+use Rattle.std.proofs.Common.{◌≡◌, ℕ, zero, suc, ◌+◌, ◌<◌, Bool, true, false, List, [], ◌∷◌, ◌++◌, length, Option, Some, None, refl, sym, ap, ◌∙◌, subst, arith}
+use Rattle.std.specs.Prelude.{slice_get, slice_set, option_map, option_and_then, ◌==◌, if◌then◌else◌, IsTrue, map}
 use Rattle.std.proofs.lemmas.List.{set-append_left, length-set}
 use Rattle.std.proofs.lemmas.Bool.{eqb-true}
 use Rattle.cil_model.specs.declared.ty.Ty.{Ty}
-use Rattle.cil_model.specs.declared.value.Value.{Value, Obj}
+use Rattle.cil_model.specs.declared.value.Value.{Value}
 use Rattle.cil_model.specs.declared.value.Pointer.{Pointer}
 use Rattle.cil_model.specs.declared.value.Pointer.TheVariants.{Arg, Local, Inside, Static}
 use Rattle.cil_model.specs.declared.contract.Contracts.{Contracts}
@@ -13,9 +13,7 @@ use Rattle.cil_model.specs.declared.program.MethodDesc.{MethodDesc}
 use Rattle.cil_semantics.specs.Words.{maybe}
 use Rattle.cil_semantics.specs.Types.{same_ty}
 use Rattle.cil_semantics.specs.declared.state.Cell.{Cell}
-use Rattle.il_opcodes.specs.declared.class.Storage.{Storage}
-use Rattle.cil_semantics.specs.Places.{stored, storage, read_path, write_path, write_cell, field_tys, fields_in, static_layout, default_cells}
-use Rattle.cil_semantics.specs.State as state
+use Rattle.cil_semantics.specs.Places.{read_path, write_cell, static_layout, default_cells}
 use Rattle.cil_semantics.specs.declared.state.Local.{Local as LocalState}
 use Rattle.cil_semantics.specs.declared.state.Object.{Object}
 use Rattle.cil_semantics.specs.declared.state.World.{World}

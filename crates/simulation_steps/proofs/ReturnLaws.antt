@@ -1,6 +1,6 @@
 -- Frames return in both runs, and groups end.
-use Rattle.std.proofs.Common.{◌≡◌, ℕ, zero, suc, ◌+◌, ◌-◌, ◌*◌, ◌<◌, ◌≤◌, Bool, true, false, List, [], ◌∷◌, ◌++◌, length, Option, Some, None, refl, sym, ap, ◌∙◌, subst, arith}
-use Rattle.std.specs.Prelude.{slice_get, option_map, option_and_then, ◌==◌, if◌then◌else◌, IsTrue, map}
+use Rattle.std.proofs.Common.{◌≡◌, ℕ, suc, ◌+◌, ◌*◌, ◌<◌, ◌≤◌, true, false, List, [], ◌∷◌, length, Option, Some, None, refl, sym, ap, ◌∙◌, subst, arith}
+use Rattle.std.specs.Prelude.{if◌then◌else◌, IsTrue}
 use Rattle.cil_model.specs.declared.ty.Ty.{Ty}
 use Rattle.cil_model.specs.declared.value.Value.{Value, Obj}
 use Rattle.cil_model.specs.declared.contract.Contracts.{Contracts}
@@ -10,7 +10,6 @@ use Rattle.cil_model.specs.declared.program.Program.{Program}
 use Rattle.cil_model.specs.declared.program.MethodDesc.{MethodDesc}
 use Rattle.cil_model.specs.NoContracts.{no_contracts}
 use Rattle.cil_semantics.specs.declared.state.Cell.{Cell}
-use Rattle.cil_semantics.specs.State as state
 use Rattle.cil_semantics.specs.declared.state.Local.{Local as LocalState}
 use Rattle.cil_semantics.specs.declared.state.World.{World}
 use Rattle.cil_semantics.specs.declared.state.Statics.{Statics}
@@ -21,17 +20,14 @@ use Rattle.cil_semantics.specs.declared.state.Frame.{Frame}
 use Rattle.cil_semantics.specs.State.{Next, pushed, with_stack, with_local, raised, lowered}
 use Rattle.cil_semantics.specs.declared.state.Continuation.{Continuation}
 use Rattle.cil_semantics.specs.declared.state.Continuation.TheVariants.{Push, PushObject, PushStruct, ThrowObject, BeginCallee, UseField, TryNext}
-use Rattle.cil_semantics.specs.declared.state.Remaining.{Remaining}
 use Rattle.cil_semantics.specs.Contracted.{pieces, Piece, Plan, runs_at}
-use Rattle.cil_semantics.specs.Unwind.{body_of, plan_at, piece_at, here_of, place_in, next_place, hasnt_begun, begin_piece, begin_group, begin_rest, next_piece, after_entry_piece, no_handler_left, drops, ends_frame, unwind}
-use Rattle.cil_semantics.specs.Frames.{stuck, if_there, use_static, begin}
-use Rattle.cil_semantics.specs.Returns.{push_below, begin_below, return_with, return_to, begin_invariants, group_over, piece_over, last_cell, tried}
+use Rattle.cil_semantics.specs.Unwind.{body_of, plan_at, piece_at, here_of, next_place, begin_piece, begin_group, begin_rest, next_piece, no_handler_left, drops, ends_frame, unwind}
+use Rattle.cil_semantics.specs.Frames.{stuck, use_static}
+use Rattle.cil_semantics.specs.Returns.{push_below, return_with, return_to, begin_invariants, group_over, piece_over, last_cell}
 use Rattle.cil_semantics.specs.Checks.{AddedNumbers}
 use Rattle.splice_facts.specs.Bodies.{with_methods}
-use Rattle.splice_facts.specs.Grown.{grow, beside}
-use Rattle.splice_facts.specs.Comes.{Comes, Reaches}
+use Rattle.splice_facts.specs.Grown.{beside}
 use Rattle.splice_facts.specs.WellFormed.{WellFormedContinuation, WellFormedAccess}
-use Rattle.splice_facts.specs.Acting.{KeepsPlaces}
 use Rattle.splice_facts.specs.Layout.{Marks, Keeps, IsHere, CanArrive}
 use Rattle.splice_facts.specs.Spliced.{Paired, stands, Arrives}
 use Rattle.splice_facts.specs.Related.{Rewritten, HandlingPairs, Waits, FramePair, Under, count_groups, in_group}
@@ -99,7 +95,7 @@ module _ (p : Program) (k : Contracts) (ms : List MethodDesc) (g : AddedNumbers)
       let none = no_handling h.method h.at h.handling h'.handling t.in_group pair.waits in
       let h1 : Frame = record h { local = pushed (Obj x) h.local } in
       let u = unwinds_at p k ms g r h1 h.at pair.extra [] t.next.thrower h'.continuation fs fs' w ss x
-          (record { old = st.old; here = here; belongs = t.next.belongs; keeps = record { typed = pair.keeps.typed; result = pair.keeps.result; thrown = pair.keeps.thrown; wide = pair.keeps.wide; caps = pair.keeps.caps }; fits = st.fits; waits = no_waits h.at t.in_group pair.waits; under = under; alike = bes; numbers = as_many p k ms g r h.continuation h'.continuation fs fs' under; deep = deep; count = count; down = unwinds p k ms g r h.continuation h'.continuation fs fs' under ok; own = st.initializes }) in
+      (record { old = st.old; here = here; belongs = t.next.belongs; keeps = record { typed = pair.keeps.typed; result = pair.keeps.result; thrown = pair.keeps.thrown; wide = pair.keeps.wide; caps = pair.keeps.caps }; fits = st.fits; waits = no_waits h.at t.in_group pair.waits; under = under; alike = bes; numbers = as_many p k ms g r h.continuation h'.continuation fs fs' under; deep = deep; count = count; down = unwinds p k ms g r h.continuation h'.continuation fs fs' under ok; own = st.initializes }) in
       let e1 = stack_unread h h.at (Obj x ∷ h.local.stack) fs w x t.in_group in
       subst (λ z. To (3 * cst + lay (suc (length fs))) (unwind p k false (h ∷ fs) w x) (push_below p' no_contracts (Some (Obj x)) (z ∷ fs') (beside ss w))) (sym (pair.same ∙ ap (λ hs. Unwinding.tw p k ms g r h h.local pair.extra q hs h'.continuation) none))
       (Unwinding.reach_within p k ms g r (cst + (2 * cst + lay (suc (length fs)))) _ _ _ (omega arith)

@@ -1,12 +1,10 @@
 -- One step of both runs at a copied instruction whose act calls nothing.
-use Rattle.std.proofs.Common.{◌≡◌, ℕ, zero, suc, ◌+◌, ◌-◌, ◌*◌, ◌<◌, ◌≤◌, Bool, true, false, List, [], ◌∷◌, ◌++◌, length, Option, Some, None, refl, sym, ap, ◌∙◌, subst, arith, append_assoc}
-use Rattle.std.specs.Prelude.{slice_get, option_map, option_and_then, ◌==◌, if◌then◌else◌, IsTrue, map}
+use Rattle.std.proofs.Common.{◌≡◌, ℕ, zero, suc, ◌+◌, ◌*◌, ◌<◌, List, [], ◌∷◌, ◌++◌, length, Some, None, refl, sym, ap, ◌∙◌, subst, arith, append_assoc}
+use Rattle.std.specs.Prelude.{slice_get, option_map, IsTrue}
 use Rattle.cil_model.specs.declared.ty.Ty.{Ty}
-use Rattle.cil_model.specs.declared.value.Value.{Value, out-Value, Obj}
+use Rattle.cil_model.specs.declared.value.Value.{Value}
 use Rattle.cil_model.specs.declared.body.Instr.{Instr}
 use Rattle.cil_model.specs.declared.contract.Contracts.{Contracts}
-use Rattle.cil_model.specs.declared.contract.Group.{Group}
-use Rattle.cil_model.specs.declared.contract.Group.TheVariants as group
 use Rattle.cil_model.specs.declared.program.Program.{Program}
 use Rattle.cil_model.specs.declared.program.MethodDesc.{MethodDesc}
 use Rattle.cil_model.specs.NoContracts.{no_contracts}
@@ -14,40 +12,31 @@ use Rattle.cil_semantics.specs.Types.{under, same_ty}
 use Rattle.cil_semantics.specs.Lookups.{method_of}
 use Rattle.il_opcodes.specs.declared.class.Storage.{Storage}
 use Rattle.il_opcodes.specs.declared.class.Storage.TheVariants.{Void}
-use Rattle.cil_semantics.specs.declared.state.Cell.{Cell}
-use Rattle.cil_semantics.specs.Places.{storage, stored}
-use Rattle.cil_semantics.specs.State as state
+use Rattle.cil_semantics.specs.Places.{storage}
 use Rattle.cil_semantics.specs.declared.state.Local.{Local as LocalState}
 use Rattle.cil_semantics.specs.declared.state.Item.{Item}
-use Rattle.cil_semantics.specs.State.{with_objects, unrecorded, recorded_after, goes_after, State, Next, Running, Ended, with_stack, with_local}
+use Rattle.cil_semantics.specs.State.{with_objects, unrecorded, recorded_after, goes_after, State, Next, Running, Ended}
 use Rattle.cil_semantics.specs.declared.state.World.{World}
 use Rattle.cil_semantics.specs.declared.state.Statics.{Statics}
-use Rattle.cil_semantics.specs.declared.state.Init.{Init}
 use Rattle.cil_semantics.specs.declared.state.Init.TheVariants.{Begun}
 use Rattle.cil_semantics.specs.declared.state.ProgramPoint.{ProgramPoint}
 use Rattle.cil_semantics.specs.declared.state.ProgramPoint.TheVariants.{LeadIn, InGroup, Rest}
-use Rattle.cil_semantics.specs.declared.state.Handling.{Handling}
 use Rattle.cil_semantics.specs.declared.state.Frame.{Frame}
-use Rattle.cil_semantics.specs.declared.state.Continuation.{Continuation}
-use Rattle.cil_semantics.specs.declared.state.Continuation.TheVariants.{Push, UseField}
+use Rattle.cil_semantics.specs.declared.state.Continuation.TheVariants.{UseField}
 use Rattle.cil_semantics.specs.declared.state.Access.{Access}
-use Rattle.il_opcodes.specs.declared.class.Class.TheVariants as class
 use Rattle.il_opcodes.specs.Opcodes.{class_of}
 use Rattle.cil_semantics.specs.Instructions.{act}
-use Rattle.cil_semantics.specs.Acts as Acts
 use Rattle.cil_semantics.specs.Acts.{Act, Stuck, GoOn, Jump, Raise, Throw, Rethrow, Leave, EndHandler, Return, Load, Store, Copy, UseStatic, CallMember, CallVirtual, NewObject, LoadVirtualFunction}
-use Rattle.cil_semantics.specs.Contracted.{Piece, Plan, runs_at}
 use Rattle.cil_semantics.specs.Unwind.{body_of, plan_at, piece_at, here_of, place_in, moved_to, next_place, begin_group, find_statics, set_statics, unwind}
-use Rattle.cil_semantics.specs.Frames.{stuck, if_there, go_on, use_static, use_behind, begin, initializer, Initializer, Ready, FailedWith, ToRun, initializer_frame, with_begun, static_cells, clause_tys}
-use Rattle.cil_semantics.specs.Returns.{kept_as, result_type, return_to, return_with, return_from, returns, returned, begin_invariants}
+use Rattle.cil_semantics.specs.Frames.{if_there, go_on, use_behind, initializer, Initializer, Ready, FailedWith, ToRun, initializer_frame, with_begun, static_cells, clause_tys}
+use Rattle.cil_semantics.specs.Returns.{kept_as, result_type, returned}
 use Rattle.cil_semantics.specs.Checks.{AddedNumbers}
 use Rattle.cil_semantics.specs.Tokens.{Here, local_tys}
 use Rattle.machine_laws.specs.Simulation.{weight, Match}
 use Rattle.machine_laws.specs.Same.{plain_step}
 use Rattle.cil_semantics.specs.Machine.{step, step_frames, and_then, runs, perform, unused_numbers, step_at, run_plain}
 use Rattle.splice_facts.specs.Bodies.{with_methods}
-use Rattle.splice_facts.specs.Grown.{grow, beside, grow_act, IsCopy, NamesLocals}
-use Rattle.splice_facts.specs.Comes.{Comes, Reaches}
+use Rattle.splice_facts.specs.Grown.{grow, beside, grow_act, NamesLocals}
 use Rattle.splice_facts.specs.WellFormed.{WellFormedContinuation, is_below}
 use Rattle.splice_facts.specs.Acting.{KeepsPlaces, WellFormedAct}
 use Rattle.splice_facts.specs.Layout.{Marks, Keeps, IsHere, CanArrive, Onward}
@@ -62,7 +51,6 @@ use Rattle.simulation.proofs.UnwindLaws as Unwinding
 use Rattle.simulation.proofs.UnwindLaws.{as_many}
 use Rattle.simulation_steps.proofs.PerformLaws as Performing
 use Rattle.simulation_steps.proofs.EnterLaws as Entering
-use Rattle.simulation_steps.proofs.ReturnLaws as Returning
 use Rattle.simulation_steps.proofs.PointerLaws as Pointing
 
 -- as in GrowthLaws of cil_semantics, which other crates can't name
