@@ -1,0 +1,5 @@
+pub mod ProgramLaws
+pub mod ActLaws
+pub mod ArriveLaws
+pub mod UnwindLaws
+pub mod PushLaws

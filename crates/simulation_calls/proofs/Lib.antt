@@ -1,0 +1,5 @@
+pub mod OutsideLaws
+pub mod CheckLaws
+pub mod RetLaws
+pub mod ClauseLaws
+pub mod CallLaws

@@ -1,0 +1,4 @@
+pub mod Outside
+pub mod Failures
+pub mod Calls
+pub mod Rets
