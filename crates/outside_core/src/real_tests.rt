@@ -276,7 +276,10 @@ fn files_are_replaced_and_read(rt: HostRuntime) -> Result<(), Fail> {
     );
     assert!(rt; same && long);
     assert_eq!(rt; store.faults(), 0);
-    let missing = matches!(store.read_all(alloc, "b.dll", 5), Err(ReadRefusal::Failed));
+    let missing = matches!(
+        store.read_all(alloc, "missing.dll", 5),
+        Err(ReadRefusal::Failed)
+    );
     assert!(rt; missing);
     assert_eq!(rt; store.faults(), 1);
     Ok(())
