@@ -3,6 +3,7 @@
 
 mod block;
 mod call;
+mod clause;
 mod code;
 mod effect;
 mod labels;
@@ -13,6 +14,7 @@ mod slices;
 
 pub use block::Block;
 pub use call::{checked_kind, contract_call, ended_kind, ends_block, is_prefix};
+pub use clause::{argument_type, exception_of, has_message};
 pub use code::Code;
 pub use labels::label;
 pub use moves::{all_with_locals, moved_target};
