@@ -1,0 +1,2 @@
+[assembly: System.Runtime.CompilerServices.TypeForwardedTo(typeof(System.Action))]
+class Kept { }

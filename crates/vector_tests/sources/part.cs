@@ -1,0 +1,1 @@
+namespace Far { public class Gone { public class Inner { } } }

@@ -1,0 +1,126 @@
+#!/usr/bin/env python3
+"""Rewrites assemblies that pass a limit of what is written, and compares the answers with docs/REFUSALS.md.
+
+Usage: tools/try_limits.py PROGRAM ASSEMBLY
+PROGRAM is the built program (crates/ccrewrite/out/ccrewrite), ASSEMBLY one that it rewrites, of less than 1 MiB. The
+program may have 512 MiB of memory. Prints a line for each run: whether the answer is as it should be, the seconds that it
+took, the text, and what was changed. Ends with status 1 where an answer differs. Needs Python 3.8 on Linux.
+"""
+import pathlib
+import resource
+import struct
+import subprocess
+import sys
+import tempfile
+import time
+
+MEMORY = 512 << 20
+
+
+def number(data, at):
+    return struct.unpack_from("<I", data, at)[0]
+
+
+def last_section(data):
+    """Where the header of the last section stands."""
+    start = number(data, 60)
+    count, size = struct.unpack_from("<H", data, start + 6)[0], struct.unpack_from("<H", data, start + 20)[0]
+    return start + 24 + size + 40 * (count - 1)
+
+
+def streams_of(root):
+    """The front of the root, and each stream by its name."""
+    at = 16 + number(root, 12)
+    count = struct.unpack_from("<H", root, at + 2)[0]
+    front, streams, at = root[: at + 2], [], at + 4
+    for _ in range(count):
+        offset, size = number(root, at), number(root, at + 4)
+        end = root.index(0, at + 8)
+        streams.append((root[at + 8 : end], root[offset : offset + size]))
+        at += 8 + (end - at - 8) // 4 * 4 + 4
+    return front, streams
+
+
+def root_of(front, streams, repeated=0):
+    """A root of these streams, and of so many that begin where it begins and have 1 MiB each."""
+    names = [name + bytes(4 - len(name) % 4) for name, _ in streams] + [b"#A\0\0"] * repeated
+    at = len(front) + 2 + sum(8 + len(name) for name in names)
+    head, body = front + struct.pack("<H", len(names)), b""
+    for name, (_, content) in zip(names, streams):
+        head += struct.pack("<II", at + len(body), len(content)) + name
+        body += content
+    head += b"".join(struct.pack("<II", 0, 1 << 20) + name for name in names[len(streams) :])
+    root = head + body
+    return root + bytes(max(0, (1 << 20) - len(root))) if repeated else root
+
+
+def with_root(data, change):
+    """The assembly with its metadata changed, behind all that it has."""
+    new, section = bytearray(data), last_section(data)
+    first = number(data, 60) + 24 + struct.unpack_from("<H", data, number(data, 60) + 20)[0]
+
+    def offset_of(rva):
+        for at in range(first, section + 1, 40):
+            start = number(data, at + 12)
+            if start <= rva < start + number(data, at + 16):
+                return rva - start + number(data, at + 20)
+        raise ValueError("no section has the RVA")
+
+    cli = offset_of(number(data, first - 16))
+    metadata = offset_of(number(data, cli + 8))
+    root = change(*streams_of(data[metadata : metadata + number(data, cli + 12)]))
+    start, raw = number(data, section + 12), number(data, section + 20)
+    new += bytes(-len(new) % 512)
+    struct.pack_into("<II", new, cli + 8, start + len(new) - raw, len(root))
+    new += root + bytes(-len(root) % 512)
+    struct.pack_into("<I", new, section + 8, len(new) - raw)
+    struct.pack_into("<I", new, section + 16, len(new) - raw)
+    return bytes(new)
+
+
+def far(data):
+    """The last section near the end of all RVAs."""
+    new = bytearray(data)
+    struct.pack_into("<I", new, last_section(data) + 12, 0xFFFFC000)
+    return bytes(new)
+
+
+def with_user_strings(size):
+    """`#US` of so many empty entries, a byte each."""
+    return lambda front, streams: root_of(front, [it for it in streams if it[0] != b"#US"] + [(b"#US", bytes(size))])
+
+
+def limited():
+    resource.setrlimit(resource.RLIMIT_AS, (MEMORY, MEMORY))
+
+
+def main():
+    program, assembly = sys.argv[1:]
+    data = pathlib.Path(assembly).read_bytes()
+    place = "assembly 0 table 00 row 0 at"
+    done = "ok: 1 assemblies, 0 methods, 0 clauses"
+    runs = [
+        ("the last section near the end of all RVAs", far(data), 1, f"refused: P5 {place} {number(data, 60) + 84}"),
+        ("#US of 16 MiB", with_root(data, with_user_strings(1 << 24)), 0, done),
+        ("#US of 16 MiB and a byte", with_root(data, with_user_strings((1 << 24) + 1)), 1, f"refused: L5 {place} 16777217"),
+        ("100 streams over each other", with_root(data, lambda *root: root_of(*root, 100)), 0, done),
+        ("4,000 streams over each other", with_root(data, lambda *root: root_of(*root, 4000)), 1, f"refused: L6 {place} 134217729"),
+    ]
+    differs = False
+    with tempfile.TemporaryDirectory() as folder:
+        source, out = pathlib.Path(folder, "in.dll"), pathlib.Path(folder, "out.dll")
+        for what, content, status, text in runs:
+            source.write_bytes(content)
+            out.write_bytes(b"old")
+            start = time.monotonic()
+            run = subprocess.run([program, "rewrite", "--out", out, source], stdout=subprocess.PIPE, text=True, preexec_fn=limited)
+            took = time.monotonic() - start
+            kept = out.read_bytes() == b"old" and source.read_bytes() == content
+            right = run.returncode == status and run.stdout == text + "\n" and kept == (status == 1)
+            differs |= not right
+            print(f"{'as-told' if right else 'DIFFERS'} {took:5.1f} s {run.returncode} [{run.stdout.strip()}] {what}", flush=True)
+    return differs
+
+
+if __name__ == "__main__":
+    sys.exit(main())
