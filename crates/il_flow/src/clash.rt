@@ -25,8 +25,8 @@ fn class_goes_on(class: Class) -> bool
     }
 }
 
-/// Whether control goes on to the next instruction.
-pub(crate) fn falls_through(op: u16) -> bool
+/// Whether control goes on from an instruction to the next one.
+pub fn falls_through(op: u16) -> bool
     ensures { result ≡ goes_on (opcode_of op) }
 {
     match find_opcode(op) {

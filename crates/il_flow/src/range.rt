@@ -198,9 +198,10 @@ fn last_argument(
     None
 }
 
-/// The range of the argument that so many others follow, where the last of them ends at a place.
+/// The range of the argument that so many others follow, where the last of them ends at a place:
+/// the shortest closed range that pushes its value, if there is one.
 #[tactic(auto, unfolding(crate::specs::Ranges::argument_before))]
-fn argument_before(
+pub fn argument_before(
     program: &Program,
     own: &MethodDesc,
     body: &Body,

@@ -1,8 +1,8 @@
 -- The rules on regions and on what goes into them and out of them (ECMA-335, III.1.7.5, III.3.15 to 3.18, 3.35, 3.46, 3.57, 4.24).
-use Rattle.std.specs.Prelude.{ℕ, ◌+◌, Bool, true, false, ◌&&◌, ◌||◌, ◌==◌, not, List, [], ◌∷◌, ◌++◌, map, get_or, Option, Some, None}
-use Rattle.std.specs.List.{list_any, list_all, flat_map, enumerate_from}
+use Rattle.std.specs.Prelude.{ℕ, ◌+◌, Bool, true, false, ◌&&◌, ◌||◌, ◌==◌, not, nat_lt, List, [], ◌∷◌, ◌++◌, map, slice_index, Option, Some, None, if◌then◌else◌}
+use Rattle.std.specs.List.{list_any, enumerate_from}
 use Rattle.cil_base.specs.declared.rule.Rule.{Rule}
-use Rattle.cil_base.specs.declared.rule.Rule.TheVariants.{X1, X2, X3, X4}
+use Rattle.cil_base.specs.declared.rule.Rule.TheVariants.{X1, X3, X4}
 use Rattle.cil_base.specs.declared.refusal.Place.{Place}
 use Rattle.cil_base.specs.declared.refusal.Refusal.{Refusal}
 use Rattle.cil_base.specs.Refusals.{Test, Fails, refusal}
@@ -11,13 +11,11 @@ use Rattle.cil_model.specs.declared.body.Instr.{Instr}
 use Rattle.cil_model.specs.declared.body.Region.{Region}
 use Rattle.cil_model.specs.declared.body.RegionKind.{RegionKind}
 use Rattle.cil_model.specs.declared.body.RegionKind.TheVariants as region
-use Rattle.il_opcodes.specs.declared.opcode.Opcode.{Opcode}
 use Rattle.il_opcodes.specs.declared.class.Class.{Class}
 use Rattle.il_opcodes.specs.declared.class.Class.TheVariants as class
-use Rattle.il_opcodes.specs.Opcodes.{opcode_of}
+use Rattle.il_opcodes.specs.Opcodes.{class_of}
 use Rattle.cil_semantics.specs.Unwind.{holds_place, in_try}
 use Rattle.il_flow.specs.Successors.{successors}
-use Rattle.region_tree.specs.Nesting.{may_precede, is_within, expected_from}
 
 abbrev pub in_handler : Region → ℕ → Bool
 in_handler r q = holds_place r.handler_from r.handler_to q
@@ -28,17 +26,7 @@ abbrev pub is_filter : RegionKind → Bool
 is_filter (region.Filter place) = true
 is_filter _ = false
 
--- Behind these regions of its table a region doesn't lie as it should: an earlier one is neither in it nor apart, its handler begins elsewhere, or 1,000 regions lie around it.
-abbrev pub is_misplaced : List Region → List Region → Region → Bool
-is_misplaced all before r =
-    list_any (λ s. not (may_precede s r)) before
-    || (not (r.handler_from == expected_from r.try_to r before) || is_within 1000 all r)
-
 -- ---- the code
-
-abbrev pub class_of : Option Opcode → Class
-class_of None = class.Nop
-class_of (Some o) = o.class
 
 abbrev pub is_ret : Class → Bool
 is_ret class.Return = true
@@ -73,7 +61,7 @@ crosses is_leave r k t = (not is_leave && goes_out r k t) || goes_in r k t
 -- ret in a region, or control goes over a region's edge where it may not
 abbrev pub breaks_region : List Region → ℕ → Instr → Bool
 breaks_region rs k i =
-    list_any (λ r. (is_ret (class_of (opcode_of i.op)) && in_region r k) || list_any (crosses (is_leave (class_of (opcode_of i.op))) r k) (successors k i)) rs
+    list_any (λ r. (is_ret (class_of i.op) && in_region r k) || list_any (crosses (is_leave (class_of i.op)) r k) (successors k i)) rs
 
 abbrev pub may_leave : Region → ℕ → Bool
 may_leave r q = in_try r q || in_kind r.kind
@@ -100,32 +88,46 @@ may_rethrow r q = in_kind r.kind
 -- leave, endfinally or rethrow stands where no region has it
 abbrev pub is_out_of_place : List Region → ℕ → Instr → Bool
 is_out_of_place rs k i =
-    (is_leave (class_of (opcode_of i.op)) && not (list_any (λ r. may_leave r k) rs))
-    || ((is_endfinally (class_of (opcode_of i.op)) && not (list_any (λ r. may_end r k) rs))
-    || (is_rethrow (class_of (opcode_of i.op)) && not (list_any (λ r. may_rethrow r k) rs)))
+    (is_leave (class_of i.op) && not (list_any (λ r. may_leave r k) rs))
+    || ((is_endfinally (class_of i.op) && not (list_any (λ r. may_end r k) rs))
+    || (is_rethrow (class_of i.op) && not (list_any (λ r. may_rethrow r k) rs)))
 
 -- ---- the tests
 
 abbrev pub offset : Body → ℕ → ℕ
-offset b k = get_or b.offsets k 0
+offset b k = slice_index b.offsets k
 
 abbrev pub test : Rule → Place → ℕ → Bool → Test
 test rule place at fails = record { refusal = refusal rule place at; fails = fails }
 
-abbrev pub region_tests : Place → Body → List Region → List Region → List Test
-region_tests place b before [] = []
-region_tests place b before (r ∷ rs) =
-    test X1 place (offset b r.try_from) (is_filter r.kind)
-    ∷ test X2 place (offset b r.try_from) (is_misplaced b.regions before r)
-    ∷ region_tests place b (before ++ r ∷ []) rs
+abbrev pub filter_test : Place → Body → Region → Test
+filter_test place b r = test X1 place (offset b r.try_from) (is_filter r.kind)
 
-abbrev pub instr_tests : Place → Body → ℕ × Instr → List Test
-instr_tests place b x =
-    test X3 place (offset b x.0) (breaks_region b.regions x.0 x.1)
-    ∷ test X4 place (offset b x.0) (is_out_of_place b.regions x.0 x.1) ∷ []
+abbrev pub edge_test : Place → Body → ℕ × Instr → Test
+edge_test place b x = test X3 place (offset b x.0) (breaks_region b.regions x.0 x.1)
+
+abbrev pub end_test : Place → Body → ℕ × Instr → Test
+end_test place b x = test X4 place (offset b x.0) (is_out_of_place b.regions x.0 x.1)
 
 abbrev pub the_tests : Place → Body → List Test
-the_tests place b = region_tests place b [] b.regions ++ flat_map (instr_tests place b) (enumerate_from 0 b.instrs)
+the_tests place b =
+    map (filter_test place b) b.regions
+    ++ (map (edge_test place b) (enumerate_from 0 b.instrs) ++ map (end_test place b) (enumerate_from 0 b.instrs))
 
-abbrev pub BreaksX : Place → Body → Refusal → Type 0
-BreaksX place b r = Fails (the_tests place b) r
+-- X1, X3 or X4 is broken with this refusal.
+abbrev pub BreaksControl : Place → Body → Refusal → Type 0
+BreaksControl place b r = Fails (the_tests place b) r
+
+-- ---- the first of them
+
+abbrev pub beats : Refusal → Option Refusal → Bool
+beats r None = true
+beats r (Some s) = nat_lt r.at s.at
+
+-- the refusal of a test that fails at a lower offset than the best before it
+abbrev pub lowered : Option Refusal → Test → Option Refusal
+lowered best t = if t.fails && beats t.refusal best then Some t.refusal else best
+
+abbrev pub lowest : Option Refusal → List Test → Option Refusal
+lowest best [] = best
+lowest best (t ∷ ts) = lowest (lowered best t) ts
