@@ -1,0 +1,9 @@
+pub mod Successors
+pub mod Effects
+pub mod Heights
+pub mod Queue
+pub mod Starts
+pub mod Boundaries
+pub mod Reach
+pub mod Ranges
+pub mod Counts

@@ -1,0 +1,23 @@
+//! What a body's code does to its stack: heights, boundaries and closed ranges.
+#![tactic(auto)]
+
+mod begin;
+mod boundary;
+mod clash;
+mod effect;
+mod heights;
+mod laws;
+mod mark;
+mod queue;
+mod range;
+mod search;
+
+pub use boundary::boundaries;
+pub use clash::falls_through;
+pub use effect::{Effect, arguments_of, effect_in, meaning_in};
+pub use heights::{checked_heights, heights_in, offset_of};
+pub use laws::{
+    act_keeps_count, fault_means_no_map, search_finds_least_map, table_agrees_with_counts,
+};
+pub use mark::Mark;
+pub use range::argument_before;

@@ -1,0 +1,157 @@
+// The search for heights.
+ghost use Rattle.std.specs.Prelude.{◌≡◌, ◌+◌, ◌≤◌, ◌<◌, ◌^◌, ◌∷◌, [], ◌++◌, length, slice_get, slice_set, OnOk, IfOk, Some, None, MatchOption, MatchResult, ℕ, List, Result, Ok, Err, replicate, if◌then◌else◌};
+ghost use Rattle.std.specs.BinaryHeap.{heap_items};
+ghost use Rattle.il_opcodes.specs.Opcodes.{opcode_of};
+ghost use Rattle.cil_semantics.specs.Lookups.{method_of};
+ghost use Rattle.il_flow.specs.declared.mark.Mark.{Mark};
+ghost use Rattle.il_flow.specs.declared.mark.Mark.TheVariants.{Waits, Passed, Unseen};
+ghost use Rattle.il_flow.specs.Effects.{effect_of};
+ghost use Rattle.il_flow.specs.Successors.{goes_on, successors, targets};
+ghost use Rattle.il_flow.specs.Heights.{Finds, fault_by, give_each, passed_by};
+ghost use Rattle.il_flow.specs.Queue.{IsQueued, count_left};
+ghost use Rattle.il_flow.specs.Starts.{Tells};
+
+use crate::clash::{falls_through, height_left, lowest_clash};
+use crate::effect::{Effect, effect_in};
+use crate::mark::{Mark, Marks};
+use crate::queue::{give_height, pop_place};
+use cil_model::{Body, Instr, MethodDesc, Operand, Program};
+use std::alloc::AllocError;
+use std::collections::BinaryHeap;
+
+/// Gives each place its height that has none yet.
+fn give_cases(
+    marks: &mut Marks,
+    queue: &mut BinaryHeap<u32>,
+    height: u32,
+    places: &[u32],
+) -> Result<(), AllocError>
+    requires { IsQueued marks.old (heap_items queue.old) }
+    ensures given { OnOk result (marks.new ≡ give_each marks.old height places.now) }
+    ensures size { OnOk result (length marks.new ≡ length marks.old) }
+    ensures queued { OnOk result (IsQueued marks.new (heap_items queue.new)) }
+    ensures left { OnOk result (count_left marks.new (heap_items queue.new) ≡ count_left marks.old (heap_items queue.old)) }
+{
+    for place in places {
+        give_height(marks, queue, height, *place)?;
+    }
+    Ok(())
+}
+
+fn give_targets(
+    marks: &mut Marks,
+    queue: &mut BinaryHeap<u32>,
+    height: u32,
+    operand: &Operand,
+) -> Result<(), AllocError>
+    requires { IsQueued marks.old (heap_items queue.old) }
+    ensures given { OnOk result (marks.new ≡ give_each marks.old height (targets operand.now)) }
+    ensures size { OnOk result (length marks.new ≡ length marks.old) }
+    ensures queued { OnOk result (IsQueued marks.new (heap_items queue.new)) }
+    ensures left { OnOk result (count_left marks.new (heap_items queue.new) ≡ count_left marks.old (heap_items queue.old)) }
+{
+    match operand {
+        Operand::Target(target) => give_height(marks, queue, height, *target),
+        Operand::Targets(targets) => give_cases(marks, queue, height, targets.as_slice()),
+        _ => Ok(()),
+    }
+}
+
+/// Gives the successors of an instruction their height.
+fn give_successors(
+    marks: &mut Marks,
+    queue: &mut BinaryHeap<u32>,
+    height: u32,
+    at: u32,
+    i: &Instr,
+) -> Result<(), AllocError>
+    requires queued { IsQueued marks.old (heap_items queue.old) }
+    requires small { at + 1 < 2 ^ 32 }
+    ensures given { OnOk result (marks.new ≡ give_each marks.old height (successors at i.now)) }
+    ensures size { OnOk result (length marks.new ≡ length marks.old) }
+    ensures queued { OnOk result (IsQueued marks.new (heap_items queue.new)) }
+    ensures left { OnOk result (count_left marks.new (heap_items queue.new) ≡ count_left marks.old (heap_items queue.old)) }
+{
+    if falls_through(i.op) {
+        give_height(marks, queue, height, at + 1)?;
+    }
+    give_targets(marks, queue, height, &i.operand)
+}
+
+/// Goes on from an instruction that waits, or answers where the rule breaks first.
+fn go_on(
+    body: &Body,
+    starts: &[bool],
+    marks: &mut Marks,
+    queue: &mut BinaryHeap<u32>,
+    effect: Effect,
+    height: u32,
+    at: u32,
+    i: &Instr,
+) -> Result<Option<u32>, AllocError>
+    requires starts { Tells body.now.regions (length body.now.instrs) starts.now }
+    requires marks { length marks.old ≡ length body.now.instrs }
+    requires small { at + 1 < 2 ^ 32 }
+    requires within { at < length marks.old }
+    requires queued { IsQueued (slice_set marks.old at (Passed height)) (heap_items queue.old) }
+    ensures fault { IfOk result (λ fault. fault ≡ fault_by body.now effect marks.old at height i.now) }
+    ensures passed { IfOk result (λ fault. fault ≡ None → marks.new ≡ passed_by effect marks.old at height i.now) }
+    ensures size { IfOk result (λ fault. fault ≡ None → length marks.new ≡ length marks.old) }
+    ensures queued { IfOk result (λ fault. fault ≡ None → IsQueued marks.new (heap_items queue.new)) }
+    ensures left { IfOk result (λ fault. fault ≡ None → count_left marks.new (heap_items queue.new) ≡ count_left (slice_set marks.old at (Passed height)) (heap_items queue.old)) }
+{
+    let Some(after) = height_left(body.max_stack, effect, height) else {
+        return Ok(Some(at));
+    };
+    if let Some(place) = lowest_clash(body, starts, marks, after, at, i) {
+        return Ok(Some(place));
+    }
+    marks.set(at as usize, Mark::Passed(height));
+    give_successors(marks, queue, after, at, i)?;
+    Ok(None)
+}
+
+fn waiting_height(marks: &Marks, at: u32) -> Option<u32>
+    ensures { MatchOption result ((h : ℕ) → slice_get marks.now at ≡ Some (Waits h) → ⊥) (λ h. slice_get marks.now at ≡ Some (Waits h)) }
+{
+    match marks.as_slice().get(at as usize) {
+        Some(Mark::Waits(height)) => Some(*height),
+        _ => None,
+    }
+}
+
+fn instr_at(body: &Body, at: u32) -> &Instr
+    requires { at < length body.now.instrs }
+    ensures { slice_get body.now.instrs at ≡ Some result.now }
+{
+    &body.instrs.as_slice()[at as usize]
+}
+
+/// Goes on from the lowest instruction that waits until there is none, or the rule breaks: then it
+/// answers where.
+pub(crate) fn search_from(
+    program: &Program,
+    own: &MethodDesc,
+    body: &Body,
+    starts: &[bool],
+    marks: &mut Marks,
+    queue: &mut BinaryHeap<u32>,
+) -> Result<Option<u32>, AllocError>
+    requires starts { Tells body.now.regions (length body.now.instrs) starts.now }
+    requires marks { length marks.old ≡ length body.now.instrs }
+    requires few { length body.now.instrs < 2 ^ 32 }
+    requires queued { IsQueued marks.old (heap_items queue.old) }
+    ensures size { IfOk result (λ fault. fault ≡ None → length marks.new ≡ length body.now.instrs) }
+    ensures found { IfOk result (λ fault. MatchOption fault (Finds (effect_of program.now own.now) body.now marks.old (Ok marks.new)) (λ q. Finds (effect_of program.now own.now) body.now marks.old (Err q))) }
+{
+    while let Some(at) = pop_place(queue) {
+        if let Some(height) = waiting_height(marks, at) {
+            let i = instr_at(body, at);
+            let effect = effect_in(program, own, i);
+            if let Some(place) = go_on(body, starts, marks, queue, effect, height, at, i)? {
+                return Ok(Some(place));
+            }
+        }
+    }
+    Ok(None)
+}
