@@ -6,5 +6,6 @@ pub mod SmallMeaning
 pub mod SmallBody
 pub mod NoContracts
 pub mod MethodLists
+pub mod TokenLists
 pub mod Programs
 pub mod Texts

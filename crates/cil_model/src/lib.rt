@@ -7,6 +7,7 @@ mod layout;
 mod methods;
 mod program;
 mod run;
+mod tokens;
 mod tree;
 mod ty;
 mod value;
@@ -21,9 +22,10 @@ pub use layout::{Layout, MethodHeader, RawClause, RawClauses, Section};
 pub use methods::MethodDescs;
 pub use program::{
     FieldDesc, FieldDescs, Impl, Impls, Kind, Meaning, MethodDesc, Program, Source, Sources,
-    TokenRow, TokenRows, TypeDesc, TypeDescs,
+    TokenRow, TypeDesc, TypeDescs,
 };
 pub use run::{Outcome, Replies, Reply, ReplyResult, RunResult, Trace, TraceItem};
+pub use tokens::TokenRows;
 pub use tree::{Block, Blocks, Handler, Handlers, Tree};
 pub use ty::{Ty, Tys, Under};
 pub use value::{Pointer, Value, Values};

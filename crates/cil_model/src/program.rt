@@ -5,6 +5,7 @@ ghost use Rattle.cil_model.specs.Programs.{body_of, with_body};
 
 use crate::body::Body;
 use crate::methods::MethodDescs;
+use crate::tokens::TokenRows;
 use crate::ty::{Ty, Tys};
 use cil_base::{Name, Token, U32s, Units};
 use sqlite_items::Items;
@@ -107,8 +108,6 @@ pub struct TokenRow {
     pub token: Token,
     pub meaning: Meaning,
 }
-
-pub type TokenRows = Items<TokenRow>;
 
 /// The program of a set. The numbers of types, fields and methods don't move when rows are appended
 /// to TARGET: those of the other assemblies come first, in assembly and row order, then TARGET's,

@@ -1,8 +1,8 @@
 // The values that a run computes with.
 
-use crate::ty::{Ty, Tys};
+use crate::ty::{Ty, Under};
 use cil_base::{Bytes, U32s, Units};
-use sqlite_items::Items;
+use sqlite_items::{Boxed, Items};
 
 /// What a pointer points to (ECMA-335, I.12.1.1.2 and III.1.1.5.2). `frame` counts the frames below
 /// it and `method` is the method that it runs. `path` leads from a cell to a field of a struct in it.
@@ -33,7 +33,8 @@ pub enum Pointer {
     },
 }
 
-/// A value on the stack, in a cell, or in the text of a run (ECMA-335, III.1.1).
+/// A value on the stack, in a cell, or in the text of a run (ECMA-335, III.1.1). Pointers and the
+/// arguments of functions are boxed, so that a value is small.
 #[cycle(value)]
 #[derive(Drop)]
 pub enum Value {
@@ -44,17 +45,16 @@ pub enum Value {
     /// The k-th object made, from 1.
     Obj(u32),
     Text(Units),
-    Ptr(Pointer),
+    Ptr(Boxed<Pointer>),
     /// A struct of the set, with one value for each instance field.
     Struct(Items<Value>),
     /// A method with the arguments of its type and its own.
-    Func {
-        method: u32,
-        type_args: Tys,
-        method_args: Tys,
-    },
+    Func { method: u32, under: Boxed<Under> },
     /// A value that is carried along unread.
     Opaque(Bytes),
 }
 
 pub type Values = Items<Value>;
+
+// A run holds millions of values.
+const _: () = prove!(size_of::<Value>() == 32);

@@ -55,7 +55,7 @@ text_at (Value-F.Obj k) = object_text k
 text_at (Value-F.Text units) = quoted units
 text_at (Value-F.Ptr pointer) = codes "&"
 text_at (Value-F.Struct fields) = codes "struct"
-text_at (Value-F.Func method type_args method_args) = codes "fn"
+text_at (Value-F.Func method under) = codes "fn"
 text_at (Value-F.Opaque bytes) = codes "opaque"
 
 abbrev pub value_text : Value → List ℕ

@@ -1,7 +1,8 @@
 // The texts of runs; expected ones are worked out by hand.
 use cil_base::{Bytes, Name, U32s, Units};
-use cil_model::{Outcome, Pointer, Reply, ReplyResult, TraceItem, Tys, Value, Values};
+use cil_model::{Outcome, Pointer, Reply, ReplyResult, TraceItem, Tys, Under, Value, Values};
 use run_texts::{print_item, print_outcome, print_value, text_of};
+use sqlite_items::Boxed;
 use std::alloc::{AllocError, Global};
 
 fn value_text(alloc: Global, v: &Value) -> Result<Bytes, AllocError> {
@@ -23,16 +24,21 @@ fn prints_units(alloc: Global, units: &[u16], text: &[u8]) -> bool {
 
 fn prints_a_pointer(alloc: Global) -> bool {
     let path = U32s::new(alloc);
-    prints(alloc, Value::Ptr(Pointer::Inside { object: 1, path }), b"&")
+    match Boxed::new(alloc, Pointer::Inside { object: 1, path }) {
+        Ok(pointer) => prints(alloc, Value::Ptr(pointer), b"&"),
+        Err(_) => false,
+    }
 }
 
 fn prints_a_function(alloc: Global) -> bool {
-    let function = Value::Func {
-        method: 0,
+    let no_arguments = Under {
         type_args: Tys::new(alloc),
         method_args: Tys::new(alloc),
     };
-    prints(alloc, function, b"fn")
+    match Boxed::new(alloc, no_arguments) {
+        Ok(under) => prints(alloc, Value::Func { method: 0, under }, b"fn"),
+        Err(_) => false,
+    }
 }
 
 #[test]

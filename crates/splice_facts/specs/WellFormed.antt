@@ -44,7 +44,7 @@ module _ (b : Bounds) where
     WellFormedValue (val.Text units) = Unit {0}
     WellFormedValue (val.Ptr q) = WellFormedPointer q
     WellFormedValue (val.Struct' shape parts) = AllWellFormed parts
-    WellFormedValue (val.Func m a c) = m < b.methods
+    WellFormedValue (val.Func m u) = m < b.methods
     WellFormedValue (val.Opaque bytes) = Unit {0}
 
     pub AllWellFormed : {m : _} → Row_of-Value m → Type 0

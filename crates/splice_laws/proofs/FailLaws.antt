@@ -184,7 +184,7 @@ module _ (p : Program) where
           by_value (Value-F.Native z) e h1 = absurd h1
           by_value (Value-F.Ptr z) e h1 = absurd h1
           by_value (Value-F.Struct z) e h1 = absurd h1
-          by_value (Value-F.Func z1 z2 z3) e h1 = absurd h1
+          by_value (Value-F.Func z1 z2) e h1 = absurd h1
           by_value (Value-F.Opaque z) e h1 = absurd h1
 
       -- what the event answers
