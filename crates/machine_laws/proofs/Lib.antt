@@ -6,3 +6,6 @@ pub mod RankLaws
 pub mod IdentityLaws
 pub mod KindLaws
 pub mod FailureLaws
+pub mod FullHeapLaws
+pub mod AnswerLaws
+pub mod FindLaws

@@ -20,10 +20,10 @@ only_element y x c = by_index c.0 c.1 c.2
     by_index zero l e = e
     by_index (suc k) l e = absurd (omega arith)
 
-first_element : {X : Type 0} (x : X) (xs : List X) → Contains (x ∷ xs) x
+pub first_element : {X : Type 0} (x : X) (xs : List X) → Contains (x ∷ xs) x
 first_element x xs = (0, omega arith, refl)
 
-later_element : {X : Type 0} (y x : X) (xs : List X) → Contains xs x → Contains (y ∷ xs) x
+pub later_element : {X : Type 0} (y x : X) (xs : List X) → Contains xs x → Contains (y ∷ xs) x
 later_element y x xs c = (suc c.0, omega (arith, c.1), c.2)
 
 contains_cases : {X : Type 0} (y x : X) (xs : List X) → Contains (y ∷ xs) x → (y ≡ x) ⊎ Contains xs x
