@@ -1,2 +1,3 @@
 pub mod OneRequiresCode
 pub mod OneRequiresLaws
+mod WholeLaws

@@ -26,14 +26,14 @@ use Rattle.splice_facts.specs.Input.{InputFacts, is_group}
 use Rattle.splice_laws.specs.RequiresOnly.{RequiresOnly}
 use Rattle.splice_laws.specs.Straight.{ldarg, ldc, add, ret}
 use Rattle.splice_laws.proofs.RequiresLaws.{requires_meet}
-use Rattle.splice_rows.specs.OneRequires.{token, contracts, cgt, requires_call, the_piece, the_plan, input, output, numbers, the_marks, written_code, group_region, Meets}
+use Rattle.splice_rows.specs.OneRequires.{token, contracts, cgt, requires_call, the_piece, the_plan, input, output, numbers, the_marks, written_code, group_region}
 use Rattle.splice_rows.proofs.OneRequiresCode.{depths, helpers, code, in_entry, is_requires, never_called, never_in_condition, within}
 
 abbrev at_clause : ℕ → ProgramPoint
 at_clause q = InGroup group.Entry 0 q
 
 -- what stands at each place at which a frame may stand
-each : (P : ProgramPoint → Instr → Type 0)
+pub each : (P : ProgramPoint → Instr → Type 0)
     → P (at_clause 0) (ldarg 0) → P (at_clause 1) (ldc (pos 0)) → P (at_clause 2) cgt → P (at_clause 3) requires_call
     → P (Rest 4) (ldarg 0) → P (Rest 5) (ldc (pos 1)) → P (Rest 6) add → P (Rest 7) ret
     → (at : ProgramPoint) (i : Instr) → IsHere (Some the_plan) at → fetch input contracts numbers (Some the_plan) 0 at ≡ Some i → P at i
@@ -67,10 +67,10 @@ not_result e = cc e
 not_result_too : EndsClause kind.Requires ≡ GivesResult → ⊥
 not_result_too e = cc e
 
-not_check : (kd : ClauseKind) → NoContractCall ≡ ChecksHere kd → ⊥
+pub not_check : (kd : ClauseKind) → NoContractCall ≡ ChecksHere kd → ⊥
 not_check kd e = cc e
 
-not_check_too : (kd : ClauseKind) → EndsClause kind.Requires ≡ ChecksHere kd → ⊥
+pub not_check_too : (kd : ClauseKind) → EndsClause kind.Requires ≡ ChecksHere kd → ⊥
 not_check_too kd e = cc e
 
 abbrev Inline : Frame → List Frame → ProgramPoint → Instr → ClauseKind → ℕ → Name → Type 0
@@ -107,7 +107,7 @@ never : (at : ProgramPoint) (i : Instr) → IsHere (Some the_plan) at → fetch 
 unfolding everything
 never at i here e = each NeverIn refl refl refl refl tt tt tt tt at i here e
 
-only : RequiresOnly input contracts output numbers 2 depths 0 the_plan the_marks
+pub only : RequiresOnly input contracts output numbers 2 depths 0 the_plan the_marks
 only =
     record {
       only = no_other;
@@ -236,7 +236,7 @@ unguarded_all (Rest q) e = cc e
 abbrev Names : Here → ProgramPoint → Instr → Type 0
 Names here at i = Rattle.splice_facts.specs.Grown.NamesLocals (length (local_tys input here (body_of input 0).locals ++ Rattle.cil_semantics.specs.Frames.clause_tys input here (Some the_plan))) (Rattle.il_opcodes.specs.Opcodes.class_of i.op) i.operand
 
-spliced : Spliced input contracts output numbers 2 depths 0 (Some the_plan) the_marks
+pub spliced : Spliced input contracts output numbers 2 depths 0 (Some the_plan) the_marks
 unfolding everything
 spliced =
     record {
@@ -255,7 +255,7 @@ spliced =
       groups = groups;
     }
 
-facts : InputFacts input contracts numbers 0 (Some the_plan)
+pub facts : InputFacts input contracts numbers 0 (Some the_plan)
 unfolding everything
 facts =
     record {
@@ -270,7 +270,3 @@ facts =
         has_result = λ gr j q x i f fs m a e s c. absurd (in_entry (λ g1 j1 z. slice_get z.clause.instrs q ≡ Some i → ⊥) (λ s1. never_in_condition GivesResult not_result not_result_too q i s1 c) gr j x e s);
       };
     }
-
-pub meets : Meets
-unfolding everything depths
-meets = record { plan = refl; depths = depths; helpers = helpers; code = code; only = only; facts = facts; spliced = spliced }

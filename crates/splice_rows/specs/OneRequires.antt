@@ -1,5 +1,5 @@
 -- A program with one method and one precondition, and its written body: what a splice lays down for it.
-use Rattle.std.specs.Prelude.{◌≡◌, ℕ, ◌+◌, ◌&&◌, nat_le, nat_lt, Bool, true, false, List, [], ◌∷◌, ◌++◌, Option, Some, None, codes, pos}
+use Rattle.std.specs.Prelude.{◌≡◌, ℕ, zero, suc, ◌+◌, get_or, ◌&&◌, nat_le, nat_lt, Bool, true, false, List, [], ◌∷◌, ◌++◌, Option, Some, None, codes, pos}
 use Rattle.cil_base.specs.declared.token.Token.{Token}
 use Rattle.cil_model.specs.declared.ty.Ty.{Ty, Known}
 use Rattle.cil_model.specs.declared.body.Body.{Body}
@@ -27,9 +27,10 @@ use Rattle.cil_semantics.specs.Checks.{AddedNumbers}
 use Rattle.cil_semantics.specs.Contracted.{Piece, Plan}
 use Rattle.cil_semantics.specs.declared.state.ProgramPoint.{ProgramPoint}
 use Rattle.cil_semantics.specs.declared.state.ProgramPoint.TheVariants.{LeadIn, InGroup, Rest}
-use Rattle.cil_semantics.specs.Unwind.{plan_at}
+use Rattle.cil_semantics.specs.Unwind.{place_in, plan_at}
 use Rattle.splice_facts.specs.Bodies.{with_methods}
-use Rattle.splice_facts.specs.Input.{InputFacts}
+use Rattle.splice_facts.specs.Input.{InputFacts, StackHeights}
+use Rattle.splice_facts.specs.Related.{Rewritten}
 use Rattle.splice_facts.specs.Spliced.{Spliced}
 use Rattle.splice_laws.specs.HelperRuns.{HelpersRun}
 use Rattle.splice_laws.specs.RequiresOnly.{RequiresOnly}
@@ -184,7 +185,32 @@ the_marks =
       thrown_at = 3;
     }
 
--- ---- the premises are met, and with them all facts on the body; two types are of the input
+-- a method whose body is kept: each place stands where it stood
+abbrev pub kept_marks : Marks
+kept_marks =
+    record {
+      places = place_in;
+      belongs = λ at q. true;
+      door = λ gr. 0;
+      out = λ gr. 0;
+      behind = λ gr j. 0;
+      old_locals = 0;
+      olds = 0;
+      extra = λ here. [];
+      result_at = 0;
+      thrown_at = 0;
+    }
+
+abbrev pub marks_of : ℕ → Marks
+marks_of zero = the_marks
+marks_of (suc m) = kept_marks
+
+-- how many values lie on the stack at each place outside the clause
+abbrev pub heights_here : ProgramPoint → ℕ
+heights_here (Rest q) = get_or (0 ∷ 0 ∷ 0 ∷ 0 ∷ 0 ∷ 1 ∷ 2 ∷ 1 ∷ []) q 0
+heights_here _ = 0
+
+-- The premises are met, and with them all facts on the body and on the whole program; two types and two methods are of the input.
 pub record Meets : Type 0 where
   pub plan : plan_at contracts input 0 ≡ Some the_plan
   pub depths : Depths 2 numbers
@@ -193,3 +219,5 @@ pub record Meets : Type 0 where
   pub only : RequiresOnly input contracts output numbers 2 depths 0 the_plan the_marks
   pub facts : InputFacts input contracts numbers 0 (Some the_plan)
   pub spliced : Spliced input contracts output numbers 2 depths 0 (Some the_plan) the_marks
+  pub heights : StackHeights input contracts numbers 0 the_plan
+  pub whole : Rewritten input contracts written_methods numbers
