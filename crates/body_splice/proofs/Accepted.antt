@@ -1,5 +1,5 @@
 -- The rules on the one body that the bytes stand for are rules on the bytes.
-use Rattle.std.proofs.Common.{◌≡◌, ℕ, List, ap, sym, ◌∙◌, subst, inl, inr, get_or, take}
+use Rattle.std.proofs.Common.{◌≡◌, ℕ, List, ◌<◌, ◌^◌, ap, sym, ◌∙◌, subst, inl, inr, get_or, take, length}
 use Rattle.std.specs.Prelude.{Option, None, IfSome}
 use Rattle.cil_base.specs.declared.token.Token.{Token}
 use Rattle.cil_base.specs.declared.refusal.Refusal.{Refusal}
@@ -7,6 +7,8 @@ use Rattle.cil_base.specs.declared.rule.Rule.TheVariants.{C1, C2}
 use Rattle.cil_base.specs.Refusals.{First, NoneBroken, InTurn, refusal}
 use Rattle.cil_model.specs.declared.body.Body.{Body}
 use Rattle.cil_model.specs.SmallBody.{IsSmallBody, HeaderBreaks, CodeBreaks}
+use Rattle.cil_model.specs.ValidBody.{AreBytes, IsValid}
+use Rattle.il_body.proofs.ValidLaws.{body_valid}
 use Rattle.body_splice.specs.Splice.{CallBreaks, CallsAt, first_call, is_one, height}
 use Rattle.body_splice.specs.Rewrite.{ContractBreaks, IsBodyRefusal, body_place}
 
@@ -37,3 +39,7 @@ unread bytes r (inr behind) = inr (behind.0, inl behind.1)
 -- no token of locals is too large where there is none
 pub no_locals : (P : Token → Type 0) (o : Option Token) → o ≡ None → IfSome o P
 no_locals P o e = subst (λ (x : Option Token). IfSome x P) (sym e) tt
+
+-- what is read can be written again
+pub valid_of : (a : ℕ) (bytes : List ℕ) (body : Body) → AreBytes bytes → IsSmallBody a bytes body → IsValid a body
+valid_of a bytes body are small = body_valid a bytes body (length bytes) are small.stands (no_locals (λ token. token.row < 2 ^ 24) body.locals small.locals)

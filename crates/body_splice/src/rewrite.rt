@@ -7,7 +7,7 @@ ghost use Rattle.body_splice.specs.Rewrite.{IsRewriting, KeepsBodyRules, IsBodyR
 use crate::splice::{first_requires, splice_one};
 use cil_base::{Bytes, Fault, Place};
 use cil_model::Body;
-use il_body::{decode_small, encode_body, read_is_valid};
+use il_body::{decode_small, encode_body};
 use std::alloc::Global;
 
 /// The bytes of a rewritten body, and how many clauses it has.
@@ -42,8 +42,6 @@ pub fn rewrite_body(alloc: Global, bytes: &[u8]) -> Result<RewrittenBody, Fault>
         Ok(before) => before,
         Err(fault) => return Err(fault),
     };
-    // What is read can be written again.
-    read_is_valid();
     let after = match splice_one(alloc, &before, place) {
         Ok(after) => after,
         Err(fault) => return Err(fault),

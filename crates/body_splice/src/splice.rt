@@ -4,7 +4,7 @@ ghost use Rattle.cil_base.specs.Refusals.{First, NoneBroken, OnRefused};
 ghost use Rattle.cil_model.specs.SmallMeaning.{SameBody};
 ghost use Rattle.cil_model.specs.BodyCode.{instr};
 ghost use Rattle.cil_model.specs.SmallBody.{IsSmallBody};
-ghost use Rattle.cil_model.specs.ValidBody.{IsValid};
+ghost use Rattle.cil_model.specs.ValidBody.{AreBytes, IsValid};
 ghost use Rattle.il_body.specs.BodyEncoding.{weight, instr_limit, without_arguments};
 ghost use Rattle.body_splice.specs.Splice.{guard, filler, check, spliced, first_call, taken, left, height, call_fault, CallBreaks, rewritten, KeepsHeader};
 
@@ -173,7 +173,7 @@ fn offset_of(body: &Body, k: usize) -> u32
 /// It is refused by C2 at the first call where the height before it isn't 1, a height between two
 /// instructions before it is below 0, or a `ret` stands before it, and else by C1 at a second call.
 pub fn splice_one(alloc: Global, body: &Body, place: Place) -> Result<Body, Fault>
-    requires { (bytes : List ℕ) × IsSmallBody place.assembly bytes body.now × IsValid place.assembly body.now }
+    requires { (bytes : List ℕ) × AreBytes bytes × IsSmallBody place.assembly bytes body.now }
 
     ensures same { IfOk result (SameBody body.now) }
     ensures accepted { OnOk result (NoneBroken (CallBreaks place body.now)) }

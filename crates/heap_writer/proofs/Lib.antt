@@ -9,3 +9,4 @@ pub mod FrontLaws
 pub mod PartLaws
 pub mod WrittenLaws
 pub mod LimitLaws
+pub mod TextLaws

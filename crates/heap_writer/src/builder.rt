@@ -1,5 +1,5 @@
 // The heaps of one assembly, to be appended to.
-ghost use Rattle.std.specs.Prelude.{◌≡◌, ◌+◌, ◌<◌, ◌≤◌, ◌^◌, ◌++◌, ◌∷◌, [], ◌%◌, ◌/◌, ℕ, false, length, Option, Some, None, IfOk, OnErr, if◌then◌else◌};
+ghost use Rattle.std.specs.Prelude.{◌≡◌, ◌+◌, ◌<◌, ◌≤◌, ◌^◌, ◌++◌, ◌∷◌, [], ◌%◌, ◌/◌, ℕ, false, length, nat_lt, Option, Some, None, IfOk, IsOk, OnErr, if◌then◌else◌};
 ghost use Rattle.std.specs.List.{list_any, flat_map};
 ghost use Rattle.cil_base.specs.Packed.{packed_spelling};
 ghost use Rattle.cil_base.specs.Refusals.{OnRefused, OnMemory, limit_refusal};
@@ -8,6 +8,7 @@ ghost use Rattle.cli_heaps.specs.Entries.{string_at, blob_at};
 ghost use Rattle.heap_writer.specs.Growth.{HeapGrowths, no_growth, entry_offset, Appends, IsFull, ReadsAt, AllRead, KeepsEntries, KeepsUserStrings, string_entry, blob_entry, user_string_content, is_special, unit_bytes, next_offset};
 
 use crate::grown_heap::GrownHeap;
+use crate::text::has_special;
 use cil_base::limits::{HEAP_LIMIT, USER_STRING_LIMIT};
 use cil_base::{Fault, Refusal, Rule, push_packed};
 use cli_heaps::Heaps;
@@ -33,24 +34,6 @@ impl Model for HeapBuilder {
     ghost view = { λ b. record { strings = b.strings; blobs = b.blobs; user_strings = b.user_strings } };
 
     ghost invariant = { λ b. AllRead string_at b.strings × AllRead blob_at b.blobs × AllRead blob_at b.user_strings × KeepsUserStrings b.user_strings };
-}
-
-/// Whether a unit needs the last byte 1 (ECMA-335, II.24.2.4).
-fn is_special(unit: u16) -> bool
-    ensures { result ≡ is_special unit }
-{
-    unit >= 0x100
-        || unit >= 1 && unit <= 8
-        || unit >= 0xE && unit <= 0x1F
-        || unit == 0x27
-        || unit == 0x2D
-        || unit == 0x7F
-}
-
-fn has_special(units: &[u16]) -> bool
-    ensures { result ≡ list_any is_special units.now }
-{
-    units.iter().any(|unit| is_special(*unit))
 }
 
 /// The bytes of an entry of `#US`, behind its length.
@@ -131,10 +114,40 @@ fn append_counted(
     Ok(heap.add(alloc, head.as_slice(), content, &[])?)
 }
 
+/// Whether the entry of a text would pass the limit of `#US`.
+fn is_full_of_text(heap: &GrownHeap, units: &[u16]) -> bool
+    ensures { result ≡ nat_lt (2 ^ 24) (next_offset heap.now + length (blob_entry (user_string_content units.now))) }
+{
+    if units.len() > USER_STRING_LIMIT as usize {
+        return true;
+    }
+    let len = 2 * units.len() + 1;
+    heap.is_full(packed_width(len as u32) + len, USER_STRING_LIMIT)
+}
+
+/// Appends the entry of a text. Where it would pass the limit, nothing is allocated.
+fn append_text(heap: &mut GrownHeap, alloc: Global, units: &[u16]) -> Result<u32, Fault>
+    ensures ok { IfOk result (λ at. Appends heap.old (user_string_content units.now) (blob_entry (user_string_content units.now)) (2 ^ 24) at heap.new) }
+    ensures refused { OnRefused result (λ r. (r ≡ limit_refusal Rule.L5 (2 ^ 24)) × IsFull heap.old (user_string_content units.now) (blob_entry (user_string_content units.now)) (2 ^ 24)) }
+    ensures memory { OnMemory result (next_offset heap.old + length (blob_entry (user_string_content units.now)) ≤ 2 ^ 24) }
+    ensures unchanged { OnErr result (heap.new ≡ heap.old) }
+{
+    if is_full_of_text(heap, units) {
+        let full = Refusal::limit(Rule::L5, USER_STRING_LIMIT);
+        return match heap.find_text(units) {
+            Some(at) => Ok(at),
+            None => Err(Fault::Refused(full)),
+        };
+    }
+    let content = user_string_content(alloc, units)?;
+    append_counted(heap, alloc, &content, USER_STRING_LIMIT)
+}
+
 impl HeapBuilder {
     /// The heaps as they are, with nothing appended.
     pub fn new(alloc: Global, heaps: &Heaps<'_>) -> Result<HeapBuilder, AllocError>
-        ensures { IfOk result (λ b. b ≡ record { strings = no_growth (length (strings heaps.now.bytes)); blobs = no_growth (length (blobs heaps.now.bytes)); user_strings = no_growth (length (user_strings heaps.now.bytes)) }) }
+        ensures made { IsOk result }
+        ensures empty { IfOk result (λ b. b ≡ record { strings = no_growth (length (strings heaps.now.bytes)); blobs = no_growth (length (blobs heaps.now.bytes)); user_strings = no_growth (length (user_strings heaps.now.bytes)) }) }
     {
         let (strings, blobs, user_strings) = heaps.lengths();
         Ok(HeapBuilder {
@@ -207,15 +220,10 @@ impl HeapBuilder {
         ensures reads_back { IfOk result (λ at. ReadsAt blob_at self.new.user_strings at (user_string_content units.now)) }
         ensures old_entries { KeepsEntries blob_at self.old.user_strings self.new.user_strings }
         ensures others { self.new ≡ record self.old { user_strings = self.new.user_strings } }
+        ensures memory { OnMemory result (next_offset self.old.user_strings + length (blob_entry (user_string_content units.now)) ≤ 2 ^ 24) }
         ensures refused { OnRefused result (λ r. (r ≡ limit_refusal Rule.L5 (2 ^ 24)) × IsFull self.old.user_strings (user_string_content units.now) (blob_entry (user_string_content units.now)) (2 ^ 24)) }
         ensures unchanged { OnErr result (self.new ≡ self.old) }
     {
-        let content = user_string_content(self.alloc, units)?;
-        append_counted(
-            &mut self.user_strings,
-            self.alloc,
-            &content,
-            USER_STRING_LIMIT,
-        )
+        append_text(&mut self.user_strings, self.alloc, units)
     }
 }

@@ -1,7 +1,8 @@
 // One heap that grows at its end, and the offsets of what was appended.
 ghost use Rattle.std.specs.Prelude.{◌≡◌, ◌+◌, ◌<◌, ◌≤◌, ◌^◌, ◌++◌, ◌∷◌, [], length, ◌==◌, nat_lt, if◌then◌else◌, Option, Some, None, IfOk, OnErr};
-ghost use Rattle.heap_writer.specs.Growth.{no_growth, entry_offset, front, next_offset, with_entry};
+ghost use Rattle.heap_writer.specs.Growth.{no_growth, entry_offset, front, next_offset, user_string_content, with_entry};
 
+use crate::text::find_text;
 use indexmap::IndexMap;
 use std::alloc::{AllocError, Global};
 use std::marker::Model;
@@ -69,6 +70,13 @@ impl GrownHeap {
         ensures { result ≡ entry_offset self.now content.now }
     {
         self.offsets.get(content).copied()
+    }
+
+    /// The offset of the entry of a text.
+    pub fn find_text(&self, units: &[u16]) -> Option<u32>
+        ensures { result ≡ entry_offset self.now (user_string_content units.now) }
+    {
+        find_text(&self.offsets, units)
     }
 
     /// Whether an entry of so many bytes would pass a limit.

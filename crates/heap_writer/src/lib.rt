@@ -5,6 +5,7 @@ mod builder;
 mod grown_heap;
 mod limits;
 mod parts;
+mod text;
 mod writer;
 
 pub use builder::HeapBuilder;

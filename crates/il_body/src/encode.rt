@@ -2,7 +2,7 @@
 #![tactic(auto, unfolding(cil_base::specs::Bytes::number_bytes))]
 
 ghost use Rattle.std.specs.Prelude.{◌≡◌, ◌==◌, ◌%◌, get_or, ℕ, List, ◌+◌, ◌*◌, ◌<◌, ◌≤◌, ◌^◌, ◌++◌, ◌∷◌, [], length, take, map, nat_le, OnOk, OnErr, IfOk, IfSome, if◌then◌else◌};
-ghost use Rattle.cil_base.specs.Refusals.{OnRefused};
+ghost use Rattle.cil_base.specs.Refusals.{OnRefused, OnMemory};
 ghost use Rattle.cil_model.specs.BodyOf.{StandsFor};
 ghost use Rattle.cil_model.specs.BodyLayout.{locals_number};
 ghost use Rattle.cil_model.specs.ValidBody.{AllValid, IsSmallToken, IsValid};
@@ -145,6 +145,8 @@ pub fn encode_body(alloc: Global, body: &Body) -> Result<Bytes, Fault>
     ensures tiny { IfOk result (λ bytes. (get_or bytes 0 0 % 4 == 2) ≡ fits_tiny body.now (length (code_bytes_of body.now.instrs))) }
     ensures accepted { OnOk result (weight body.now.instrs ≤ instr_limit) }
     ensures refused { OnRefused result (λ r. (instr_limit < weight body.now.instrs) × (r ≡ too_many)) }
+    // L4 is tested before memory is taken.
+    ensures memory { OnMemory result (weight body.now.instrs ≤ instr_limit) }
 {
     let instrs = body.instrs.as_slice();
     if !is_within_limit(instrs) {
@@ -178,6 +180,7 @@ pub fn encode_into(alloc: Global, body: &Body, out: &mut Vec<u8>) -> Result<(), 
     ensures appended { OnOk result (out.new.items ≡ out.old.items ++ body_bytes body.now) }
     ensures accepted { OnOk result (weight body.now.instrs ≤ instr_limit) }
     ensures refused { OnRefused result (λ r. (instr_limit < weight body.now.instrs) × (r ≡ too_many) × (out.new.items ≡ out.old.items)) }
+    ensures memory { OnMemory result (weight body.now.instrs ≤ instr_limit) }
     ensures partly { OnErr result ((k : ℕ) × (out.new.items ≡ out.old.items ++ take k (body_bytes body.now))) }
 {
     let bytes = match encode_body(alloc, body) {

@@ -9,11 +9,7 @@ use Rattle.body_splice.proofs.Accepted.{first_of_bytes, none_of_bytes, unread, n
 use Rattle.body_splice.proofs.rewrite.rewrite_body.Goals as goal
 
 pub splice_one-requires : goal.splice_one-requires
-splice_one-requires c =
-    let s = c.in-Ok.ensures.body in
-    let valid : IsValid 0 c.in-Ok.before =
-    c.read_is_valid.ensures 0 c.args.bytes.now c.in-Ok.before (length c.args.bytes.now) (λ k. (c.type_inv.bytes k).fits) s.stands (no_locals _ _ s.locals) in
-    (c.args.bytes.now, s, valid)
+splice_one-requires c = (c.args.bytes.now, (λ k. (c.type_inv.bytes k).fits), c.in-Ok.ensures.body)
 
 pub encode_body-requires : goal.encode_body-requires
 encode_body-requires c = (0, c.in-Ok-splice_one.ensures.valid)
