@@ -14,7 +14,7 @@ use Rattle.cil_semantics.specs.Lookups.{contract_exception, type_of, field_of, i
 use Rattle.cil_semantics.specs.Dispatch.{methods_of, impls_of, is_interface, is_interface_at, is_interface_kind}
 use Rattle.cil_semantics.specs.Places.{own_fields, own_layout, layouts, layout, static_layout}
 use Rattle.machine_laws.specs.Growth.{Extends}
-use Rattle.machine_laws.specs.Answers.{Each, NamesOwn, AreClosed}
+use Rattle.machine_laws.specs.Answers.{Each, NamesOwn}
 
 -- ---- lists
 
@@ -49,6 +49,13 @@ each_filter {A} P test (x ∷ xs) h = go (test x) (each_filter P test xs h.1)
     go false rest = rest
 
 -- ---- one program and another that keeps it
+
+-- Types of p alone, with all that stands above them; and the types that q has besides name no interface.
+pub record AreClosed (p q : Program) (old : Ty → Bool) : Type 0 where
+  pub number : (t : Ty) (d : ℕ × List Ty) → old t ≡ true → in_set (out-Ty t) ≡ Some d → d.0 < length p.types
+  pub base : (t u : Ty) → old t ≡ true → base_of p t ≡ Some u → old u ≡ true
+  pub interfaces : (t : Ty) → old t ≡ true → Each (λ u. old u ≡ true) (interfaces_of p t)
+  pub names_none : (k : ℕ) → length p.types ≤ k → (type_of q k).interfaces ≡ []
 
 -- the closed types, with a height that falls from each to what is above it
 pub record Descends (p p' : Program) (is_old : Ty → Bool) (height : Ty → ℕ) : Type 0 where

@@ -11,10 +11,11 @@ use Rattle.cil_semantics.specs.Types.{under, all_under, same_ty, same_tys, has_p
 use Rattle.cil_semantics.specs.Lookups.{type_of, method_of, in_set, args_of, base_of, interfaces_of, chain_on, chain_within, chain, most_bases}
 use Rattle.cil_semantics.specs.Dispatch.{Seen, same_seen, is_virtual, takes_new_slot, is_public, same_signature, same_shape, methods_of, impls_of, owner_among, owner_args, row_counts, row_names, by_rows, bases, virtual_like, hidden_by, overrides, overrides_outside, public_like, first_row, implementing, is_interface, interface_slot, slot_of, overriders, bodies_in, chosen, nearest, body_for}
 use Rattle.machine_laws.specs.Growth.{Extends}
-use Rattle.machine_laws.specs.Answers.{Each, NamesOwn, AreClosed, IsSeen, AnswersAlike}
+use Rattle.machine_laws.specs.Answers.{Each, NamesOwn, NamesNone, AnswersAlike, is_below}
+use Rattle.machine_laws.proofs.ClosedLaws.{are_closed}
 use Rattle.machine_laws.proofs.RankLaws.{first_element, later_element}
 use Rattle.machine_laws.proofs.AnswerLaws as answers
-use Rattle.machine_laws.proofs.AnswerLaws.{any_on, filter_on, map_on, each_on, each_filter, Descends, Lower, base_same, interfaces_same, chain_same, chain_old, methods_same, impls_same, interface_same, more_bases}
+use Rattle.machine_laws.proofs.AnswerLaws.{any_on, filter_on, map_on, each_on, each_filter, Descends, Lower, base_same, interfaces_same, chain_same, chain_old, methods_same, impls_same, interface_same, more_bases, AreClosed}
 
 find_on : {A : Type 0} (f g : A → Bool) (xs : List A) → Each (λ x. f x ≡ g x) xs → find f xs ≡ find g xs
 find_on f g [] h = refl
@@ -46,7 +47,7 @@ each_reverse P (x ∷ xs) h = subst (Each P) (sym (reverse-append (x ∷ []) xs)
 
 module _ (p p' : Program) (is_old : Ty → Bool) (height : Ty → ℕ) (kept : Extends p p') (whole : NamesOwn p) (falls : Descends p p' is_old height) where
   abbrev Valid : Seen → Type 0
-  Valid s = IsSeen p is_old s
+  Valid s = (is_old s.0 ≡ true) × (s.1 < length p.methods)
 
   -- ---- methods
 
@@ -497,10 +498,11 @@ descends p q old kept closed =
       most = λ t o. kept.ranked.within t;
     }
 
-pub answers_alike : (p q : Program) (old : Ty → Bool) → Extends p q → NamesOwn p → AreClosed p q old → AnswersAlike p q old
-answers_alike p q old kept whole closed =
+pub answers_alike : (p q : Program) → Extends p q → NamesOwn p → NamesNone p q → AnswersAlike p q
+answers_alike p q kept whole none =
+    let old = is_below (length p.types) in
     let rank = kept.ranked.rank in
-    let falls = descends p q old kept closed in
+    let falls = descends p q old kept (are_closed p q whole none) in
     record {
       chains = answers.chain_same p q old rank kept whole falls;
       subs = answers.sub_same p q old rank kept whole falls;

@@ -9,3 +9,4 @@ pub mod FailureLaws
 pub mod FullHeapLaws
 pub mod AnswerLaws
 pub mod FindLaws
+pub mod ClosedLaws

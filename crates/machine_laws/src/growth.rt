@@ -12,7 +12,7 @@ ghost use Rattle.cil_semantics.specs.Checks.{AddedNumbers, Failure, Sequel, fail
 ghost use Rattle.cil_semantics.specs.Core.{Name};
 ghost use Rattle.cil_semantics.specs.Lookups.{method_of};
 ghost use Rattle.cil_semantics.specs.Tokens.{nests_little};
-ghost use Rattle.machine_laws.specs.Answers.{NamesOwn, AreClosed, AnswersAlike};
+ghost use Rattle.machine_laws.specs.Answers.{NamesOwn, NamesNone, AnswersAlike};
 ghost use Rattle.machine_laws.specs.Growth.{Ranked, LooksFarEnough, Extends};
 ghost use Rattle.machine_laws.specs.Kinds.{OneKind};
 ghost use Rattle.machine_laws.specs.Same.{KeepsIdentities, Same, IsConstructor, IsFailureClass};
@@ -27,7 +27,7 @@ pub fn looks_far_enough()
 /// above them, the places of their fields, the slots of methods and their bodies.
 #[tactic(auto, using(crate::proofs::FindLaws::answers_alike))]
 pub fn answers_stay()
-    ensures { (p q : Program) (old : Ty → Bool) → Extends p q → NamesOwn p → AreClosed p q old → AnswersAlike p q old }
+    ensures { (p q : Program) → Extends p q → NamesOwn p → NamesNone p q → AnswersAlike p q }
 {}
 
 /// What a grown program keeps has its identities.

@@ -35,7 +35,7 @@ use Rattle.machine_laws.specs.Same.{most_clauses}
 use Rattle.splice_facts.specs.Bodies.{with_methods}
 use Rattle.splice_facts.specs.Grown.{beside}
 use Rattle.splice_facts.specs.Comes.{Comes}
-use Rattle.splice_facts.specs.WellFormed.{is_below}
+use Rattle.machine_laws.specs.Answers.{is_below}
 use Rattle.splice_facts.specs.Layout.{Marks, Keeps, IsHere, CanArrive}
 use Rattle.splice_facts.specs.Spliced.{Beside, twin, stands, Arrives, OpensAt, ContinuesAt, Paired, Spliced, Groups, FitsGroup, leaves_with, moved_found, is_guarded, cost}
 use Rattle.splice_facts.specs.Input.{is_group, LandsAt}

@@ -30,7 +30,7 @@ use Rattle.cil_semantics.specs.Calls.{is_event, CoreMember, Constructor, Equalit
 use Rattle.cil_semantics.specs.Checks.{AddedNumbers}
 use Rattle.splice_facts.specs.Bodies.{with_methods}
 use Rattle.splice_facts.specs.Grown.{beside}
-use Rattle.splice_facts.specs.WellFormed.{is_below}
+use Rattle.machine_laws.specs.Answers.{is_below}
 use Rattle.splice_facts.specs.Related.{Rewritten, Under, count_groups}
 use Rattle.splice_facts.specs.Related as Pairs
 use Rattle.simulation_calls.specs.Outside as Alike

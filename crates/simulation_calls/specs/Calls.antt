@@ -16,7 +16,7 @@ use Rattle.cil_semantics.specs.Outside.{by_ref_args, member_of}
 use Rattle.cil_semantics.specs.Calls.{CoreMember, Quantifier, core_of, with_default, quantify, plain_call, call_member}
 use Rattle.cil_semantics.specs.Checks.{AddedNumbers}
 use Rattle.splice_facts.specs.Grown.{beside}
-use Rattle.splice_facts.specs.WellFormed.{is_below}
+use Rattle.machine_laws.specs.Answers.{is_below}
 use Rattle.splice_facts.specs.Spliced.{cost}
 use Rattle.splice_facts.specs.Related.{Rewritten, written, ReachesIn, per_frame, Under, AllStand, count_groups}
 use Rattle.simulation_steps.specs.Steps.{BesideIn}

@@ -71,7 +71,7 @@ module _ (p : Program) (k : Contracts) (ms : List MethodDesc) (g : AddedNumbers)
 
   -- ---- reading
 
-  pub static_cells_same : (w : World) (ss : List Statics) (t : Ty) → IsTrue (Rattle.splice_facts.specs.WellFormed.is_below r.types t) → IsBeside w ss → static_cells p' (beside ss w) t ≡ static_cells p w t
+  pub static_cells_same : (w : World) (ss : List Statics) (t : Ty) → IsTrue (Rattle.machine_laws.specs.Answers.is_below r.types t) → IsBeside w ss → static_cells p' (beside ss w) t ≡ static_cells p w t
   static_cells_same w ss t a bes = ap (λ o. cells_or' o) (find_beside p k ms g r t w ss a bes) ∙ by_option (find_statics t w.statics)
     where
       cells_or' : Option Statics → List Cell
@@ -271,11 +271,11 @@ module _ (p : Program) (k : Contracts) (ms : List MethodDesc) (g : AddedNumbers)
   abbrev statics_of : Ty → List Cell → Option Statics → Statics
   statics_of t cs o = maybe (record { owner = t; init = None; cells = cs }) (λ (s : Statics). record s { cells = cs }) o
 
-  statics_owner : (t : Ty) (cs : List Cell) (o : Option Statics) → ((s : Statics) → o ≡ Some s → same_ty s.owner t ≡ true) → Rattle.splice_facts.specs.WellFormed.is_below r.types t ≡ true → Rattle.splice_facts.specs.WellFormed.is_below r.types (statics_of t cs o).owner ≡ true
+  statics_owner : (t : Ty) (cs : List Cell) (o : Option Statics) → ((s : Statics) → o ≡ Some s → same_ty s.owner t ≡ true) → Rattle.machine_laws.specs.Answers.is_below r.types t ≡ true → Rattle.machine_laws.specs.Answers.is_below r.types (statics_of t cs o).owner ≡ true
   statics_owner t cs None h a = a
   statics_owner t cs (Some s) h a = Rattle.splice_facts.proofs.StaticLaws.same_below r.types s.owner t (h s refl) ∙ a
 
-  pub static_beside : (t : Ty) (cs : List Cell) (w : World) (ss : List Statics) → Rattle.splice_facts.specs.WellFormed.is_below r.types t ≡ true → IsBeside w ss → IsBeside (set_static w t cs) (set_statics (same_ty t) (statics_of t cs (find_statics t ss)) ss)
+  pub static_beside : (t : Ty) (cs : List Cell) (w : World) (ss : List Statics) → Rattle.machine_laws.specs.Answers.is_below r.types t ≡ true → IsBeside w ss → IsBeside (set_static w t cs) (set_statics (same_ty t) (statics_of t cs (find_statics t ss)) ss)
   static_beside t cs w ss a bes =
       set_beside p k ms g r t (statics_of t cs (find_statics t w.statics)) (statics_of t cs (find_statics t ss)) w ss (ap (statics_of t cs) (find_beside p k ms g r t w ss a bes)) a (statics_owner t cs (find_statics t w.statics) (Unwinding.found_owner t w.statics) a) bes
 

@@ -148,7 +148,7 @@ module _ (p : Program) (k : Contracts) (ms : List MethodDesc) (g : AddedNumbers)
     pub keeps : Keeps (mk h.method) (here_of h fs) h.thrown l ex
     pub under : below h.continuation b' fs fs'
     pub others : valid fs
-    pub own : (t : Ty) → h.initializes ≡ Some t → IsTrue (Rattle.splice_facts.specs.WellFormed.is_below r.types t)
+    pub own : (t : Ty) → h.initializes ≡ Some t → IsTrue (Rattle.machine_laws.specs.Answers.is_below r.types t)
     pub fine_back : WellFormedContinuation (Pairs.bounds p k ms g r) h.continuation
     pub deep : w.depth ≤ suc k.settings.guard
     pub count : w.depth ≡ count_groups fs

@@ -37,7 +37,8 @@ use Rattle.machine_laws.specs.Same.{plain_step}
 use Rattle.cil_semantics.specs.Machine.{step, step_frames, and_then, runs, perform, unused_numbers, step_at, run_plain}
 use Rattle.splice_facts.specs.Bodies.{with_methods}
 use Rattle.splice_facts.specs.Grown.{grow, beside, grow_act, NamesLocals}
-use Rattle.splice_facts.specs.WellFormed.{WellFormedContinuation, is_below}
+use Rattle.machine_laws.specs.Answers.{is_below}
+use Rattle.splice_facts.specs.WellFormed.{WellFormedContinuation}
 use Rattle.splice_facts.specs.Acting.{KeepsPlaces, WellFormedAct}
 use Rattle.splice_facts.specs.Layout.{Marks, Keeps, IsHere, CanArrive, Onward}
 use Rattle.splice_facts.specs.Spliced.{Paired, from_here}

@@ -10,7 +10,7 @@ use Rattle.cil_semantics.specs.Types.{Layer, same_ty, is_prim, is_known, is_outs
 use Rattle.cil_semantics.specs.Lookups.{in_set}
 use Rattle.cil_semantics.specs.declared.state.Statics.{Statics}
 use Rattle.cil_semantics.specs.Unwind.{set_statics, find_statics}
-use Rattle.splice_facts.specs.WellFormed.{is_below}
+use Rattle.machine_laws.specs.Answers.{is_below}
 
 abbrev below_layer : ℕ → Layer → Bool
 below_layer n l = maybe true (λ (d : ℕ × List Ty). nat_lt d.0 n) (in_set l)

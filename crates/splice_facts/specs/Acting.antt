@@ -2,7 +2,8 @@
 use Rattle.std.specs.Prelude.{◌≡◌, ◌<◌, length, IsTrue}
 use Rattle.cil_semantics.specs.declared.state.Local.{Local}
 use Rattle.cil_semantics.specs.Acts.{Act, Stuck, GoOn, Jump, Raise, Throw, Rethrow, Leave, EndHandler, Return, Load, Store, Copy, UseStatic, CallMember, CallVirtual, NewObject, LoadVirtualFunction}
-use Rattle.splice_facts.specs.WellFormed.{Bounds, WellFormedPointer, WellFormedAccess, is_below}
+use Rattle.machine_laws.specs.Answers.{is_below}
+use Rattle.splice_facts.specs.WellFormed.{Bounds, WellFormedPointer, WellFormedAccess}
 
 -- no act changes what is returned, or how many locals there are
 pub record KeepsPlaces (l l2 : Local) : Type 0 where

@@ -38,7 +38,8 @@ use Rattle.cil_semantics.specs.Machine.{step, step_frames, run_plain}
 use Rattle.splice_facts.specs.Acting.{WellFormedAct}
 use Rattle.splice_facts.specs.Bodies.{with_methods, SameMethods}
 use Rattle.splice_facts.specs.Grown.{beside}
-use Rattle.splice_facts.specs.WellFormed.{is_below, Bounds, WellFormedLocal, WellFormedWorld, WellFormedContinuation}
+use Rattle.machine_laws.specs.Answers.{is_below}
+use Rattle.splice_facts.specs.WellFormed.{Bounds, WellFormedLocal, WellFormedWorld, WellFormedContinuation}
 use Rattle.splice_facts.specs.Comes.{Reaches}
 use Rattle.splice_facts.specs.Input.{InputFacts, StackHeights, result_count, access_count, is_group}
 use Rattle.splice_facts.specs.Layout.{Depths, Marks, Keeps, IsHere, CanArrive, Onward, fetch}

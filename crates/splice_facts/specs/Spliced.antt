@@ -41,7 +41,7 @@ use Rattle.cil_semantics.specs.declared.contract_call.ContractCall.TheVariants.{
 use Rattle.cil_semantics.specs.Checks.{AddedNumbers, Failure, Condition, condition_in, dropped, recalled, inline_label, Sequel, failing, inline_number}
 use Rattle.machine_laws.specs.Same.{most_clauses}
 use Rattle.splice_facts.specs.Grown.{grow, beside, IsCopy}
-use Rattle.splice_facts.specs.WellFormed.{is_below}
+use Rattle.machine_laws.specs.Answers.{is_below}
 use Rattle.splice_facts.specs.Comes.{Comes}
 use Rattle.splice_facts.specs.Input.{IsFound, is_group, top_of}
 use Rattle.splice_facts.specs.Layout.{fetch, IsHere, CanArrive, Onward, never_falls, Depths, HasDepth, Marks, Keeps}

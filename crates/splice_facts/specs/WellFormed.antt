@@ -1,12 +1,11 @@
 -- What a run of the input can have in its places: no pointer to a local that the method lacks, no static of what was appended, and no method that was appended.
-use Rattle.std.specs.Prelude.{ℕ, ◌<◌, Bool, true, nat_lt, List, [], ◌∷◌, Option, Some, None, IsTrue}
-use Rattle.cil_model.specs.declared.ty.Ty.{Ty, out-Ty}
+use Rattle.std.specs.Prelude.{ℕ, ◌<◌, List, [], ◌∷◌, Option, Some, None, IsTrue}
+use Rattle.cil_model.specs.declared.ty.Ty.{Ty}
 use Rattle.cil_model.specs.declared.value.Value.{Value, Row_of-Value, end_of-Value, more_of-Value}
 use Rattle.cil_model.specs.declared.value.Value as val
 use Rattle.cil_model.specs.declared.value.Pointer.{Pointer}
 use Rattle.cil_model.specs.declared.value.Pointer.TheVariants.{Arg, Local, Inside, Static}
-use Rattle.cil_semantics.specs.Words.{maybe}
-use Rattle.cil_semantics.specs.Lookups.{in_set}
+use Rattle.machine_laws.specs.Answers.{is_below}
 use Rattle.cil_semantics.specs.declared.state.Cell.{Cell}
 use Rattle.cil_semantics.specs.declared.state.Local.{Local as LocalState}
 use Rattle.cil_semantics.specs.declared.state.Object.{Object}
@@ -22,10 +21,6 @@ pub record Bounds : Type 0 where
   pub width : ℕ → ℕ
   pub types : ℕ
   pub methods : ℕ
-
--- a type whose number is one of the first n
-abbrev pub is_below : ℕ → Ty → Bool
-is_below n t = maybe true (λ (d : ℕ × List Ty). nat_lt d.0 n) (in_set (out-Ty t))
 
 module _ (b : Bounds) where
   abbrev pub WellFormedPointer : Pointer → Type 0

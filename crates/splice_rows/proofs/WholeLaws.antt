@@ -40,7 +40,7 @@ use Rattle.splice_facts.specs.Input.{InputFacts, StackHeights, LeavesHeight, is_
 use Rattle.splice_facts.specs.Layout.{IsHere, fetch}
 use Rattle.splice_facts.specs.Related.{Rewritten}
 use Rattle.splice_facts.specs.Spliced.{Spliced}
-use Rattle.splice_facts.specs.WellFormed.{is_below}
+use Rattle.machine_laws.specs.Answers.{is_below}
 use Rattle.splice_rows.specs.OneRequires.{contracts, the_plan, input, output, numbers, written_methods, heights_here, marks_of, Meets}
 use Rattle.splice_rows.proofs.OneRequiresCode.{depths, helpers, code, never_called}
 use Rattle.splice_rows.proofs.OneRequiresLaws.{each, not_check, not_check_too, only, facts, spliced}
