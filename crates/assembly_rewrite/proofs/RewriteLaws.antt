@@ -1,14 +1,14 @@
 -- An assembly written anew: what its parts say of it.
-use Rattle.std.proofs.Common.{◌≡◌, ◌≢◌, ◌⊎◌, ℕ, ◌-◌, ◌^◌, ◌<◌, ◌≤◌, eqb, ltb, Bool, true, false, cond, not, ◌||◌, List, [], map, length, take, drop, Result, Ok, Err, refl, sym, ap, ◌∙◌, subst, inl, inr, arith}
-use Rattle.std.specs.Prelude.{IfOk, OnOk}
+use Rattle.std.proofs.Common.{◌≡◌, ◌≢◌, ◌⊎◌, ℕ, ◌-◌, ◌^◌, ◌<◌, ◌≤◌, eqb, ltb, Bool, true, false, cond, not, ◌||◌, List, map, length, take, drop, Result, Ok, Err, refl, sym, ap, ◌∙◌, subst, inl, inr, arith}
+use Rattle.std.specs.Prelude.{IfOk, IsOk, OnOk}
 use Rattle.std.proofs.lemmas.List.{take_all}
 use Rattle.std.proofs.lemmas.Bool.{cases_Bool, and_parts, eqb-true, lt-ltb}
 use Rattle.cil_base.specs.declared.rule.Rule.TheVariants.{L5, L6}
 use Rattle.cil_base.specs.declared.refusal.Refusal.{Refusal}
 use Rattle.cil_base.specs.declared.refusal.Fault.{Fault}
 use Rattle.cil_base.specs.declared.refusal.Fault.TheVariants.{Refused, Memory}
-use Rattle.cil_base.specs.Refusals.{NoneBroken, Fails, OnRefused}
-use Rattle.cil_base.proofs.RefusalLaws.{OnRefused-weaker}
+use Rattle.cil_base.specs.Refusals.{NoneBroken, Fails, OnRefused, OnMemory}
+use Rattle.cil_base.proofs.RefusalLaws.{OnRefused-weaker, OnMemory-weaker}
 use Rattle.cil_base.proofs.OrderLaws.{first_is_one}
 use Rattle.cil_base.proofs.Small.{on_ok, same_err}
 use Rattle.cil_base.proofs.LayerLaws.{named_before, named_behind, none_joined}
@@ -26,10 +26,10 @@ use Rattle.cli_heaps.specs.Root.{Metadata}
 use Rattle.heap_writer.specs.Written.{limit_tests, IsWritten}
 use Rattle.cli_tables.specs.Tables.{rows_in, AreIn}
 use Rattle.cli_tables.specs.TableRules.{HeaderBroken, has_unread, is_one_assembly}
-use Rattle.cli_tables.specs.Written.{NoneFull, AreOfOne, IsOverfull, IsRefused}
+use Rattle.cli_tables.specs.Written.{NoneFull, AreOfOne, IsOverfull, IsRefused, FitsLimits}
 use Rattle.assembly.specs.Assemblies as reading
 use Rattle.assembly.specs.Assemblies.{metadata_in, tables_of}
-use Rattle.assembly_rewrite.specs.Rewrite.{no_growths, stream_of, metadata_with, new_metadata, IsLimit, AreTooLong, before_this, KeepsRows, IsContract, PassesLimit, HasNoRoom, Layer, Reading, Contracts, Limits, Room, Breaks, Names, MayBoth, later_layers, IsAssemblyRefusal, KeepsAssemblyRules, IsRewriteRefusal, KeepsRewriteRules}
+use Rattle.assembly_rewrite.specs.Rewrite.{no_growths, stream_of, metadata_with, new_metadata, IsLimit, AreTooLong, AreShort, KeepsRows, IsContract, PassesLimit, HasNoRoom, Layer, Reading, Contracts, Limits, Room, Breaks, Names, MayBoth, later_layers, IsAssemblyRefusal, KeepsAssemblyRules, IsRewriteRefusal, KeepsRewriteRules}
 
 -- ---- limits
 
@@ -37,9 +37,12 @@ none_over : (meta : List ℕ) (ts : List (List (List ℕ))) → NoneFull ts → 
 none_over meta ts few none r (inl x) = omega (arith, x.1, few r.table)
 none_over meta ts few none r (inr x) = none r x
 
-pub within : (r : Result (List ℕ) Fault) (meta : List ℕ) (ts : List (List (List ℕ))) → OnOk r (NoneFull ts) → OnOk r (NoneBroken (Fails (limit_tests meta (no_growths meta) (stream_of meta ts)))) → OnOk r (NoneBroken (IsLimit meta ts))
-within (Ok x) meta ts few none = none_over meta ts few none
-within (Err e) meta ts few none = tt
+pub within : (r : Result (List ℕ) Fault) (meta : List ℕ) (ts : List (List (List ℕ))) → OnOk r (NoneFull ts) → OnOk r (NoneBroken (Fails (limit_tests meta (no_growths meta) (stream_of meta ts)))) → OnOk r (length (metadata_with meta ts) ≤ 2 ^ 27) → OnOk r (AreShort meta ts)
+within (Ok x) meta ts few none short = (none_over meta ts few none, short)
+within (Err e) meta ts few none short = tt
+
+pub short_only : (r : Result (List ℕ) Fault) (meta : List ℕ) (ts : List (List (List ℕ))) → OnMemory r (FitsLimits meta (no_growths meta) ts) → OnMemory r (AreShort meta ts)
+short_only r meta ts h = OnMemory-weaker r (FitsLimits meta (no_growths meta) ts) (AreShort meta ts) (λ f. (none_over meta ts f.0 f.1.limits, f.1.short)) h
 
 -- what the writer refuses
 limit_or_length : (meta : List ℕ) (ts : List (List (List ℕ))) (r : Refusal) → IsRefused meta (no_growths meta) ts r → IsOverfull ts r ⊎ NoneFull ts → IsLimit meta ts r ⊎ AreTooLong meta ts r
@@ -166,21 +169,28 @@ limit_rule bytes r (inr (inr (inr (inr (inl x))))) = ap (λ (t : Refusal). t.rul
 limit_rule bytes r (inr (inr (inr (inr (inr (inl x)))))) = ap (λ (t : Refusal). t.rule) (sym x.1)
 limit_rule bytes r (inr (inr (inr (inr (inr (inr x)))))) = absurd x
 
--- which refusal of metadata that can't be written is named
-pub named_refusal : (bytes : List ℕ) (a : ℕ) (r s : Refusal) → NoneBroken (IsContract (metadata_of bytes) a) → (r.rule ≢ L6 → s ≡ r) → (r.rule ≡ L6 → s ≡ before_this (room_of bytes a) r)
-    → PassesLimit bytes r ⊎ AreTooLong (metadata_of bytes) (tables_of bytes) r → IsRewriteRefusal bytes a s
-unfolding new_metadata
-named_refusal bytes a r s contracts other long (inl x) =
-    inr (contracts, inl (subst (λ (t : Refusal). PassesLimit bytes t) (sym (other (λ e. apart (sym (limit_rule bytes r x) ∙ e)))) x))
+-- L5 before P5, and P5 before L6
+pub limit_first : (bytes : List ℕ) (r s n : Refusal) → (r.rule ≢ L6 → s ≡ r) → (r.rule ≡ L6 → s ≡ n) → PassesLimit bytes r ⊎ AreTooLong (metadata_of bytes) (tables_of bytes) r → PassesLimit bytes s ⊎ (NoneBroken (PassesLimit bytes) × (s ≡ n))
+limit_first bytes r s n other long (inl x) = inl (subst (λ (t : Refusal). PassesLimit bytes t) (sym (other (λ e. apart (sym (limit_rule bytes r x) ∙ e)))) x)
   where
     apart : L5 ≡ L6 → ⊥
     apart k = cc
-named_refusal bytes a r s contracts other long (inr x) =
-    inr (contracts, inr (x.within, inl (by_room (room_of bytes a) refl (long (ap (λ (t : Refusal). t.rule) x.refusal_is)))))
+limit_first bytes r s n other long (inr x) = inr (x.within, long (ap (λ (t : Refusal). t.rule) x.refusal_is))
+
+-- which refusal of an image without room is named
+pub room_first : (bytes : List ℕ) (a : ℕ) (n s : Refusal) → NoneBroken (IsContract (metadata_of bytes) a) → room_of bytes a ≡ Err n → PassesLimit bytes s ⊎ (NoneBroken (PassesLimit bytes) × (s ≡ n)) → IsRewriteRefusal bytes a s
+room_first bytes a n s contracts e (inl x) = inr (contracts, inl x)
+room_first bytes a n s contracts e (inr x) = inr (contracts, inr (x.0, inl (subst (λ (t : Refusal). HasNoRoom bytes a t) (sym x.1) (error_room bytes (new_metadata bytes) a n e))))
+
+-- and of metadata that can't be written, where there is room
+pub named_refusal : (bytes : List ℕ) (a : ℕ) (r : Refusal) → NoneBroken (IsContract (metadata_of bytes) a) → IsOk (room_of bytes a) → PassesLimit bytes r ⊎ AreTooLong (metadata_of bytes) (tables_of bytes) r → IsRewriteRefusal bytes a r
+unfolding new_metadata
+named_refusal bytes a r contracts ok (inl x) = inr (contracts, inl x)
+named_refusal bytes a r contracts ok (inr x) = by_room (room_of bytes a) refl ok
   where
-    by_room : (o : Result ℕ Refusal) → room_of bytes a ≡ o → s ≡ before_this o r → HasNoRoom bytes a s
-    by_room (Ok room) e k = subst (λ (t : Refusal). HasNoRoom bytes a t) (sym (k ∙ x.refusal_is)) (long_refused bytes (new_metadata bytes) a room e x.long)
-    by_room (Err earlier) e k = subst (λ (t : Refusal). HasNoRoom bytes a t) (sym k) (error_room bytes (new_metadata bytes) a earlier e)
+    by_room : (o : Result ℕ Refusal) → room_of bytes a ≡ o → IsOk o → IsRewriteRefusal bytes a r
+    by_room (Ok room) e k = inr (contracts, inr (x.within, inl (subst (λ (t : Refusal). HasNoRoom bytes a t) (sym x.refusal_is) (long_refused bytes (new_metadata bytes) a room e x.long))))
+    by_room (Err n) e k = absurd cc
 
 -- no room is refused behind the limits
 pub room_refused : (bytes : List ℕ) (a : ℕ) (m : List ℕ) (r : Result (List ℕ) Fault) → NoneBroken (IsContract (metadata_of bytes) a) → NoneBroken (PassesLimit bytes) → m ≡ new_metadata bytes

@@ -1,11 +1,11 @@
 -- What `rewrite` makes of one assembly without contracts: the same rows in a grown image, with its metadata in a section of their own.
-use Rattle.std.specs.Prelude.{◌≡◌, ◌⊎◌, ◌<◌, ◌^◌, ℕ, List, [], ◌∷◌, ◌++◌, map, length, codes, Some, Result, Ok, Err}
+use Rattle.std.specs.Prelude.{◌≡◌, ◌⊎◌, ◌<◌, ◌≤◌, ◌^◌, ℕ, List, [], ◌∷◌, ◌++◌, map, length, codes, Some, Ok, Err, IsOk}
 use Rattle.cil_base.specs.declared.rule.Rule.TheVariants.{Z1, L5, L6}
 use Rattle.cil_base.specs.declared.refusal.Refusal.{Refusal}
 use Rattle.cil_base.specs.Refusals.{First, NoneBroken, Fails, InLayers, NoneOf, limit_refusal}
 use Rattle.pe_image.specs.Headers.{headers_of}
 use Rattle.pe_image.specs.Cli.{metadata_of}
-use Rattle.pe_image.specs.SectionGrowth.{growth_in}
+use Rattle.pe_image.specs.SectionGrowth.{growth_in, room_of}
 use Rattle.pe_image.specs.Written.{grown_of, KeepsBytes}
 use Rattle.pe_image.specs.ReadBack.{new_rva, Grows}
 use Rattle.assembly.specs.Assemblies as reading
@@ -87,10 +87,9 @@ pub record AreTooLong (meta : List ℕ) (tables : List (List (List ℕ))) (r : R
   pub long : 2 ^ 27 < length (metadata_with meta tables)
   pub refusal_is : r ≡ limit_refusal L6 (2 ^ 27)
 
--- the refusal that comes before this one, if it is one
-abbrev pub before_this : Result ℕ Refusal → Refusal → Refusal
-before_this (Ok rva) r = r
-before_this (Err earlier) r = earlier
+-- no limit is passed, and the metadata alone are no longer than an image may be
+abbrev pub AreShort : List ℕ → List (List (List ℕ)) → Type 0
+AreShort meta tables = NoneBroken (IsLimit meta tables) × (length (metadata_with meta tables) ≤ 2 ^ 27)
 
 -- there is no room for a section more, or the image would be too long
 abbrev pub HasNoRoom : List ℕ → ℕ → Refusal → Type 0
@@ -145,3 +144,12 @@ IsRewriteRefusal bytes assembly = InLayers (Breaks bytes assembly) (Names bytes 
 
 abbrev pub KeepsRewriteRules : List ℕ → ℕ → Type 0
 KeepsRewriteRules bytes assembly = NoneOf (Breaks bytes assembly) later_layers
+
+-- ---- want of memory
+
+-- What is tested before memory is taken: the assembly has no contracts, no limit of what is written is passed, the metadata alone
+-- are short enough for an image, and the image has room for a section more.
+pub record MayWantMemory (bytes : List ℕ) (assembly : ℕ) : Type 0 where
+  pub contracts : NoneBroken (IsContract (metadata_of bytes) assembly)
+  pub short : AreShort (metadata_of bytes) (tables_of bytes)
+  pub room : IsOk (room_of bytes assembly)

@@ -1,10 +1,10 @@
 // The assembly without contracts, written anew.
 ghost use Rattle.std.specs.Prelude.{◌≡◌, ◌≢◌, ◌⊎◌, ◌<◌, ◌^◌, true, length, Ok, Err, IfOk, OnOk};
-ghost use Rattle.cil_base.specs.Refusals.{NoneBroken, OnRefused};
+ghost use Rattle.cil_base.specs.Refusals.{NoneBroken, OnRefused, OnMemory};
 ghost use Rattle.cil_base.specs.declared.rule.Rule.TheVariants.{L6};
 ghost use Rattle.pe_image.specs.Headers.{headers_of};
 ghost use Rattle.pe_image.specs.Cli.{metadata_of};
-ghost use Rattle.pe_image.specs.SectionGrowth.{growth_in, room_of};
+ghost use Rattle.pe_image.specs.SectionGrowth.{growth_in};
 ghost use Rattle.pe_image.specs.Written.{grown_of, KeepsBytes};
 ghost use Rattle.pe_image.specs.ReadBack.{new_rva, Grows};
 ghost use Rattle.cli_heaps.specs.Root as root;
@@ -13,7 +13,7 @@ ghost use Rattle.cli_tables.specs.Tables.{AreIn};
 ghost use Rattle.cli_tables.specs.TableRules.{HeaderBroken};
 ghost use Rattle.cli_tables.specs.Written.{AreOfOne};
 ghost use Rattle.assembly.specs.Assemblies.{AreWritable, tables_of};
-ghost use Rattle.assembly_rewrite.specs.Rewrite.{no_growths, stream_of, metadata_with, new_metadata, IsLimit, AreTooLong, before_this, PassesLimit, KeepsRows, KeepsAssemblyRules, IsAssemblyRefusal, KeepsRewriteRules, IsRewriteRefusal};
+ghost use Rattle.assembly_rewrite.specs.Rewrite.{no_growths, stream_of, metadata_with, new_metadata, IsLimit, AreTooLong, AreShort, MayWantMemory, PassesLimit, KeepsRows, KeepsAssemblyRules, IsAssemblyRefusal, KeepsRewriteRules, IsRewriteRefusal};
 
 use crate::contract_rows::first_contract_row;
 use assembly::Assembly;
@@ -32,8 +32,9 @@ fn write_tables(alloc: Global, heaps: &Heaps<'_>, tables: &Tables) -> Result<Byt
     ensures bytes { IfOk result (λ new. new ≡ metadata_with heaps.now.bytes tables.now) }
     ensures rows { IfOk result (λ new. AreIn (root.tables new) tables.now) }
     ensures header { IfOk result (λ new. AreOfOne tables.now → NoneBroken (HeaderBroken new heaps.now.assembly)) }
-    ensures within { OnOk result (NoneBroken (IsLimit heaps.now.bytes tables.now)) }
+    ensures within { OnOk result (AreShort heaps.now.bytes tables.now) }
     ensures refused { OnRefused result (λ r. IsLimit heaps.now.bytes tables.now r ⊎ AreTooLong heaps.now.bytes tables.now r) }
+    ensures memory { OnMemory result (AreShort heaps.now.bytes tables.now) }
 {
     let grown = HeapBuilder::new(alloc, heaps)?;
     tables.write(alloc, heaps, &grown)
@@ -45,8 +46,9 @@ fn write_metadata(alloc: Global, assembly: &Assembly<'_>) -> Result<Bytes, Fault
     ensures bytes { IfOk result (λ new. new ≡ new_metadata assembly.now.bytes) }
     ensures rows { IfOk result (λ new. AreIn (root.tables new) (tables_of assembly.now.bytes)) }
     ensures header { IfOk result (λ new. NoneBroken (HeaderBroken new assembly.now.assembly)) }
-    ensures within { OnOk result (NoneBroken (PassesLimit assembly.now.bytes)) }
+    ensures within { OnOk result (AreShort (metadata_of assembly.now.bytes) (tables_of assembly.now.bytes)) }
     ensures refused { OnRefused result (λ r. PassesLimit assembly.now.bytes r ⊎ AreTooLong (metadata_of assembly.now.bytes) (tables_of assembly.now.bytes) r) }
+    ensures memory { OnMemory result (AreShort (metadata_of assembly.now.bytes) (tables_of assembly.now.bytes)) }
 {
     write_tables(alloc, assembly.heaps(), assembly.tables())
 }
@@ -66,36 +68,48 @@ fn place_metadata(alloc: Global, image: &Image<'_>, metadata: &[u8]) -> Result<B
     }
 }
 
-/// The refusal of metadata, or P5 before L6 where the image has no room for a section.
-fn first_refusal(image: &Image<'_>, refusal: Refusal) -> Refusal
+/// L5 before P5, and P5 before L6.
+fn before_length(refusal: Refusal, no_room: Refusal) -> Refusal
     ensures other { refusal.rule ≢ L6 → result ≡ refusal }
-    ensures long { refusal.rule ≡ L6 → result ≡ before_this (room_of image.now.bytes image.now.assembly) refusal }
+    ensures long { refusal.rule ≡ L6 → result ≡ no_room }
 {
     if refusal.rule == Rule::L6 {
-        return match image.room() {
-            Ok(_) => refusal,
-            Err(no_room) => no_room,
-        };
+        no_room
+    } else {
+        refusal
     }
-    refusal
+}
+
+/// The refusal of an image without room for a section: L5 where a limit is passed, else P5. Where
+/// memory is wanting, none is passed.
+fn without_room(alloc: Global, assembly: &Assembly<'_>, no_room: Refusal) -> Refusal
+    ensures { PassesLimit assembly.now.bytes result ⊎ (NoneBroken (PassesLimit assembly.now.bytes) × (result ≡ no_room)) }
+{
+    match write_metadata(alloc, assembly) {
+        Err(Fault::Refused(refusal)) => return before_length(refusal, no_room),
+        Err(Fault::Memory(_)) => return no_room,
+        Ok(_) => return no_room,
+    }
 }
 
 /// The bytes of the same assembly in an image that has grown by one section, which holds its
-/// metadata. The refusal is the first of Z1 where it has contracts, of L5, and of P5 and L6.
+/// metadata. The refusal is the first of Z1 where it has contracts, of L5, and of P5 and L6. All of
+/// them but the L6 of metadata that an image can hold are tested before memory is taken.
 pub fn rewrite_assembly(alloc: Global, assembly: &Assembly<'_>) -> Result<Bytes, Fault>
     ensures done { IfOk result (KeepsRows assembly.now.bytes assembly.now.assembly) }
     ensures accepted { OnOk result (KeepsRewriteRules assembly.now.bytes assembly.now.assembly) }
     ensures refused { OnRefused result (IsRewriteRefusal assembly.now.bytes assembly.now.assembly) }
+    ensures memory { OnMemory result (MayWantMemory assembly.now.bytes assembly.now.assembly) }
 {
     if let Some(refusal) = first_contract_row(assembly) {
         return Err(Fault::Refused(refusal));
     }
+    if let Err(no_room) = assembly.image().room() {
+        return Err(Fault::Refused(without_room(alloc, assembly, no_room)));
+    }
     let metadata = match write_metadata(alloc, assembly) {
         Ok(metadata) => metadata,
-        Err(Fault::Refused(refusal)) => {
-            return Err(Fault::Refused(first_refusal(assembly.image(), refusal)));
-        }
-        Err(Fault::Memory(e)) => return Err(Fault::Memory(e)),
+        Err(fault) => return Err(fault),
     };
     place_metadata(alloc, assembly.image(), metadata.as_slice())
 }

@@ -1,7 +1,3 @@
-use Rattle.std.proofs.Common.{sym, subst}
-use Rattle.cil_base.specs.declared.refusal.Refusal.{Refusal}
-use Rattle.cil_base.specs.Refusals.{First}
-use Rattle.assembly_rewrite.specs.Rewrite.{IsContract}
 use Rattle.assembly_rewrite.proofs.ContractLaws.{contracts_in_first, contracts_in_second, no_contracts, numbered}
 use Rattle.assembly_rewrite.proofs.contract_rows.first_of_tables.Goals as goal
 

@@ -1,6 +1,6 @@
-use Rattle.std.proofs.Common.{◌≡◌, ◌⊎◌, ℕ, List, sym, ap, subst}
+use Rattle.std.proofs.Common.{◌≡◌, ◌⊎◌, sym, subst}
 use Rattle.std.specs.Prelude.{IfOk, OnOk}
-use Rattle.cil_base.specs.Refusals.{NoneBroken, OnRefused}
+use Rattle.cil_base.specs.Refusals.{NoneBroken, OnRefused, OnMemory}
 use Rattle.cil_base.proofs.Small.{if_ok}
 use Rattle.pe_image.specs.Cli.{metadata_of}
 use Rattle.cli_heaps.specs.Root as root
@@ -10,7 +10,7 @@ use Rattle.cli_tables.specs.Tables.{AreIn}
 use Rattle.cli_tables.specs.TableRules.{HeaderBroken}
 use Rattle.cli_tables.specs.Written.{AreOfOne}
 use Rattle.assembly.specs.Assemblies.{AreWritable}
-use Rattle.assembly_rewrite.specs.Rewrite.{no_growths, stream_of, metadata_with, IsLimit, AreTooLong}
+use Rattle.assembly_rewrite.specs.Rewrite.{no_growths, stream_of, metadata_with, IsLimit, AreTooLong, AreShort}
 use Rattle.assembly_rewrite.proofs.RewriteLaws.{of_parts, is_new, streams_are, one_each}
 use Rattle.assembly_rewrite.proofs.rewrite.write_metadata.Goals as goal
 
@@ -41,8 +41,12 @@ returns-clause-header c =
 
 pub returns-clause-within : goal.returns-clause-within
 returns-clause-within c =
-    of_parts (λ m ts. OnOk c.write_tables.result (NoneBroken (IsLimit m ts))) c.args.assembly.now c.heaps.result.now c.tables.result.now c.heaps.ensures c.tables.ensures.value c.write_tables.ensures.within
+    of_parts (λ m ts. OnOk c.write_tables.result (AreShort m ts)) c.args.assembly.now c.heaps.result.now c.tables.result.now c.heaps.ensures c.tables.ensures.value c.write_tables.ensures.within
 
 pub returns-clause-refused : goal.returns-clause-refused
 returns-clause-refused c =
     of_parts (λ m ts. OnRefused c.write_tables.result (λ r. IsLimit m ts r ⊎ AreTooLong m ts r)) c.args.assembly.now c.heaps.result.now c.tables.result.now c.heaps.ensures c.tables.ensures.value c.write_tables.ensures.refused
+
+pub returns-clause-memory : goal.returns-clause-memory
+returns-clause-memory c =
+    of_parts (λ m ts. OnMemory c.write_tables.result (AreShort m ts)) c.args.assembly.now c.heaps.result.now c.tables.result.now c.heaps.ensures c.tables.ensures.value c.write_tables.ensures.memory
