@@ -3,7 +3,7 @@
 
 Usage: tools/try_limits.py PROGRAM ASSEMBLY
 PROGRAM is the built program (crates/ccrewrite/out/ccrewrite), ASSEMBLY one that it rewrites, of less than 1 MiB. The
-program may have 512 MiB of memory. Prints a line for each run: whether the answer is as it should be, the seconds that it
+program may have 1 GiB of memory. Prints a line for each run: whether the answer is as it should be, the seconds that it
 took, the text, and what was changed. Ends with status 1 where an answer differs. Needs Python 3.8 on Linux.
 """
 import pathlib
@@ -14,7 +14,7 @@ import sys
 import tempfile
 import time
 
-MEMORY = 512 << 20
+MEMORY = 1 << 30
 
 
 def number(data, at):
@@ -90,8 +90,24 @@ def with_user_strings(size):
     return lambda front, streams: root_of(front, [it for it in streams if it[0] != b"#US"] + [(b"#US", bytes(size))])
 
 
+def with_rows(count):
+    """`#~` of one Module, so many StandAloneSig and one Assembly row, all zero, so that each index is 2 bytes."""
+    tables = struct.pack("<IBBBBQQIII", 0, 2, 0, 0, 1, 1 << 0x00 | 1 << 0x11 | 1 << 0x20, 0, 1, count, 1)
+    tables += bytes(10 + 2 * count + 22)
+    tables += bytes(-len(tables) % 4)
+    return lambda front, streams: root_of(front, [(name, tables if name == b"#~" else old) for name, old in streams])
+
+
 def limited():
     resource.setrlimit(resource.RLIMIT_AS, (MEMORY, MEMORY))
+
+
+def told(what, start, run, status, text, kept=True):
+    """Prints a line for a run, and answers whether it is as it should be."""
+    took = time.monotonic() - start
+    right = run.returncode == status and run.stdout == text + "\n" and kept
+    print(f"{'as-told' if right else 'DIFFERS'} {took:5.1f} s {run.returncode} [{run.stdout.strip()}] {what}", flush=True)
+    return right
 
 
 def main():
@@ -103,6 +119,8 @@ def main():
         ("the last section near the end of all RVAs", far(data), 1, f"refused: P5 {place} {number(data, 60) + 84}"),
         ("#US of 16 MiB", with_root(data, with_user_strings(1 << 24)), 0, done),
         ("#US of 16 MiB and a byte", with_root(data, with_user_strings((1 << 24) + 1)), 1, f"refused: L5 {place} 16777217"),
+        ("2^24 - 1 StandAloneSig rows", with_root(data, with_rows((1 << 24) - 1)), 0, done),
+        ("2^24 StandAloneSig rows", with_root(data, with_rows(1 << 24)), 1, "refused: L5 assembly 0 table 11 row 0 at 16777216"),
         ("100 streams over each other", with_root(data, lambda *root: root_of(*root, 100)), 0, done),
         ("4,000 streams over each other", with_root(data, lambda *root: root_of(*root, 4000)), 1, f"refused: L6 {place} 134217729"),
     ]
@@ -114,11 +132,8 @@ def main():
             out.write_bytes(b"old")
             start = time.monotonic()
             run = subprocess.run([program, "rewrite", "--out", out, source], stdout=subprocess.PIPE, text=True, preexec_fn=limited)
-            took = time.monotonic() - start
             kept = out.read_bytes() == b"old" and source.read_bytes() == content
-            right = run.returncode == status and run.stdout == text + "\n" and kept == (status == 1)
-            differs |= not right
-            print(f"{'as-told' if right else 'DIFFERS'} {took:5.1f} s {run.returncode} [{run.stdout.strip()}] {what}", flush=True)
+            differs |= not told(what, start, run, status, text, kept == (status == 1))
     return differs
 
 

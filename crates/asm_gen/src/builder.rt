@@ -120,6 +120,7 @@ impl Builder {
         ensures reads_back { IfOk result (λ at. ReadsAt blob_at self.new.heaps.user_strings at (user_string_content units.now)) }
         ensures others { self.new ≡ record self.old { heaps = record self.old.heaps { user_strings = self.new.heaps.user_strings } } }
         ensures refused { OnRefused result (λ r. (r ≡ limit_refusal Rule.L5 (2 ^ 24)) × IsFull self.old.heaps.user_strings (user_string_content units.now) (blob_entry (user_string_content units.now)) (2 ^ 24)) }
+        ensures memory { OnMemory result (next_offset self.old.heaps.user_strings + length (blob_entry (user_string_content units.now)) ≤ 2 ^ 24) }
         ensures unchanged { OnErr result (self.new ≡ self.old) }
     {
         self.heaps.append_user(units)
