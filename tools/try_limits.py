@@ -1,10 +1,12 @@
 #!/usr/bin/env python3
 """Rewrites assemblies that pass a limit of what is written, and compares the answers with docs/REFUSALS.md.
 
-Usage: tools/try_limits.py PROGRAM ASSEMBLY
+Usage: tools/try_limits.py PROGRAM ASSEMBLY [MEASURE]
 PROGRAM is the built program (crates/ccrewrite/out/ccrewrite), ASSEMBLY one that it rewrites, of less than 1 MiB. The
-program may have 1 GiB of memory. Prints a line for each run: whether the answer is as it should be, the seconds that it
-took, the text, and what was changed. Ends with status 1 where an answer differs. Needs Python 3.8 on Linux.
+program may have 1 GiB of memory. With MEASURE, the built program of crates/measure, a body is encoded that is as long
+as one may be, and one that is longer; it may have 4 GiB. Prints a line for each run: whether the answer is as it should
+be, the seconds that it took, the text, and what was changed. Ends with status 1 where an answer differs. Needs Python
+3.8 on Linux.
 """
 import pathlib
 import resource
@@ -98,8 +100,8 @@ def with_rows(count):
     return lambda front, streams: root_of(front, [(name, tables if name == b"#~" else old) for name, old in streams])
 
 
-def limited():
-    resource.setrlimit(resource.RLIMIT_AS, (MEMORY, MEMORY))
+def limited(memory=MEMORY):
+    resource.setrlimit(resource.RLIMIT_AS, (memory, memory))
 
 
 def told(what, start, run, status, text, kept=True):
@@ -110,8 +112,22 @@ def told(what, start, run, status, text, kept=True):
     return right
 
 
+def bodies_are_limited(measure):
+    """Whether a body of 2^22 instructions and fewer is encoded, and one of more isn't."""
+    right = True
+    for asked, status, text in [
+        (4194300, 0, "body: 4194300 instructions, 12582913 bytes, 1 times"),
+        (4194304, 1, "refused: L4 at 4194305"),
+    ]:
+        start = time.monotonic()
+        words = [measure, "body", str(asked), "1"]
+        run = subprocess.run(words, stdout=subprocess.PIPE, text=True, preexec_fn=lambda: limited(4 * MEMORY))
+        right &= told(f"a body of {asked + 1} instructions", start, run, status, text)
+    return right
+
+
 def main():
-    program, assembly = sys.argv[1:]
+    program, assembly, *measure = sys.argv[1:]
     data = pathlib.Path(assembly).read_bytes()
     place = "assembly 0 table 00 row 0 at"
     done = "ok: 1 assemblies, 0 methods, 0 clauses"
@@ -134,6 +150,8 @@ def main():
             run = subprocess.run([program, "rewrite", "--out", out, source], stdout=subprocess.PIPE, text=True, preexec_fn=limited)
             kept = out.read_bytes() == b"old" and source.read_bytes() == content
             differs |= not told(what, start, run, status, text, kept == (status == 1))
+    for it in measure:
+        differs |= not bodies_are_limited(it)
     return differs
 
 

@@ -1,12 +1,17 @@
 //! Repeats calls on large inputs, for the scripts under tools/.
 //!
 //! `measure body N TIMES` decodes and encodes a body of N instructions TIMES times, and prints its
-//! length.
+//! length, or the refusal where it is too long.
+//! `measure signatures FILE...` reads all signatures of assemblies, and prints those that are refused
+//! and how many there are.
 #![tactic(auto)]
 
 mod body;
+mod signatures;
 
 use body::repeat;
+use cil_base::Fault;
+use signatures::{Counts, scan_file};
 use std::process::ExitCode;
 use std::{env, io};
 
@@ -19,20 +24,46 @@ fn words_of(rt: &HostRuntime) -> io::Result<Vec<String>> {
     Ok(words)
 }
 
-/// Measures bodies, and prints how long one is. None where something fails.
-fn measure_body(rt: &HostRuntime, instrs: &str, times: &str) -> Option<()> {
+/// Measures bodies, and prints how long one is; status 1 where it is refused. None where something
+/// fails.
+fn measure_body(rt: &HostRuntime, instrs: &str, times: &str) -> Option<u8> {
     let instrs = instrs.parse::<u32>().ok()?;
     let times = times.parse::<u32>().ok()?;
-    let len = repeat(rt.alloc(), instrs, times).ok()??;
-    println!(rt; "body: {instrs} instructions, {len} bytes, {times} times").ok()
+    match repeat(rt.alloc(), instrs, times) {
+        Ok(None) | Err(Fault::Memory(_)) => None,
+        Ok(Some(len)) => {
+            println!(rt; "body: {instrs} instructions, {len} bytes, {times} times").ok()?;
+            Some(0)
+        }
+        Err(Fault::Refused(refusal)) => {
+            println!(rt; "refused: {} at {}", refusal.rule, refusal.at).ok()?;
+            Some(1)
+        }
+    }
 }
 
-fn run(rt: &HostRuntime, words: &[String]) -> Option<()> {
+/// Reads the signatures of assemblies. None where something can't be printed.
+fn scan_files(rt: &HostRuntime, names: &[String]) -> Option<u8> {
+    let mut counts = Counts::default();
+    for name in names {
+        scan_file(rt, name.as_str(), &mut counts).ok()?;
+    }
+    let Counts {
+        files,
+        unread,
+        blobs,
+        refused,
+    } = counts;
+    println!(rt;
+        "signatures: {files} files, {unread} not read, {blobs} blobs, {refused} refused"
+    ).ok()?;
+    Some(0)
+}
+
+fn run(rt: &HostRuntime, words: &[String]) -> Option<u8> {
     match words {
-        [command, instrs, times] => {
-            if command.as_str() != "body" {
-                return None;
-            }
+        [command, names @ ..] if command.as_str() == "signatures" => scan_files(rt, names),
+        [command, instrs, times] if command.as_str() == "body" => {
             measure_body(rt, instrs.as_str(), times.as_str())
         }
         _ => None,
@@ -43,7 +74,7 @@ fn main(rt: HostRuntime) -> ExitCode {
     match words_of(&rt) {
         Err(_) => ExitCode::from(2),
         Ok(words) => match run(&rt, words.as_slice()) {
-            Some(()) => ExitCode::from(0),
+            Some(status) => ExitCode::from(status),
             None => ExitCode::from(2),
         },
     }

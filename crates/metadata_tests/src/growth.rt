@@ -187,3 +187,40 @@ fn limits_of_the_metadata(rt: HostRuntime) -> Result<(), Fault> {
     assert!(rt; limit_with(rt.alloc(), 150, 12)?.is_none());
     Ok(())
 }
+
+/// A root of an empty `#~` and a `#US` of so many empty entries, a byte each.
+fn long_user_strings(alloc: Global, size: u32) -> Result<Vec<u8>, AllocError> {
+    let mut meta = Vec::from_slice(alloc, b"BSJB\x01\0\x01\0\0\0\0\0\x04\0\0\0v1\0\0\0\0\x02\0")?;
+    meta.extend_from_slice(b"\x30\0\0\0\x18\0\0\0#~\0\0\x48\0\0\0")?;
+    push_u32(&mut meta, size)?;
+    meta.extend_from_slice(b"#US\0")?;
+    push_zeros(&mut meta, 24)?;
+    push_zeros(&mut meta, size as usize)?;
+    Ok(meta)
+}
+
+/// Appends the text "a", another text, and "a" again: the first place, the limit, and the place.
+fn append_three(builder: &mut HeapBuilder) -> Result<bool, Fault> {
+    let first = builder.append_user(&[0x61])?;
+    let other = limit_of(builder.append_user(&[0x62]));
+    let again = builder.append_user(&[0x61])?;
+    Ok(first == 0xFF_FFFC && other == Some((Rule::L5, 0x100_0001)) && again == first)
+}
+
+/// Whether the text "a" fills a `#US` that has four bytes of room, and is found there again.
+fn full_heap_refuses(alloc: Global) -> Result<bool, Fault> {
+    let meta = long_user_strings(alloc, 0xFF_FFFC)?;
+    if meta.len() > 0x200_0000 {
+        return Ok(false);
+    }
+    match Heaps::read(&meta, 0) {
+        Ok(heaps) => append_three(&mut HeapBuilder::new(alloc, &heaps)?),
+        Err(refusal) => Err(Fault::Refused(refusal)),
+    }
+}
+
+#[test]
+fn a_full_heap_takes_no_other_text(rt: HostRuntime) -> Result<(), Fault> {
+    assert!(rt; full_heap_refuses(rt.alloc())?);
+    Ok(())
+}
