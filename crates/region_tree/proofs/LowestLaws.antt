@@ -1,12 +1,12 @@
 -- The failing test of the lowest offset is the first refusal, where the tests are of one place and their rules come in order.
-use Rattle.std.proofs.Common.{◌≡◌, ℕ, ◌≤◌, ◌<◌, Bool, true, false, cond, ltb, eqb, ◌||◌, ◌&&◌, List, [], ◌∷◌, ◌++◌, Option, Some, None, refl, sym, ap, subst, ◌∙◌, ◌⊎◌, inl, inr, arith}
+use Rattle.std.proofs.Common.{◌≡◌, ℕ, ◌≤◌, Bool, true, false, cond, ◌&&◌, List, [], ◌∷◌, ◌++◌, Option, Some, None, refl, sym, subst, ◌∙◌, ◌⊎◌, inl, inr, arith}
 use Rattle.std.specs.Prelude.{MatchOption, map}
 use Rattle.std.specs.List.{enumerate_from}
 use Rattle.cil_base.specs.declared.rule.Rule.{Rule}
-use Rattle.cil_base.specs.declared.rule.Rule.TheVariants.{X1, X3, X4}
+use Rattle.cil_base.specs.declared.rule.Rule.TheVariants.{X1, X2, X3, X4}
 use Rattle.cil_model.specs.declared.body.Body.{Body}
 use Rattle.std.proofs.lemmas.Bool.{ltb-false}
-use Rattle.cil_base.proofs.Small.{less, and_both}
+use Rattle.cil_base.proofs.Small.{less}
 use Rattle.cil_base.proofs.RefusalLaws.{not_less, less_refl, less_trans}
 use Rattle.cil_base.specs.declared.refusal.Place.{Place}
 use Rattle.cil_base.specs.declared.refusal.Refusal.{Refusal}
@@ -114,7 +114,7 @@ mapped_last place rule at fails n (y ∷ ys) le =
 
 in_order : (place : Place) (b : Body) → InOrder place 0 (the_tests place b)
 in_order place b =
-    mapped place X1 _ _ 0 b.regions _ (omega arith) (mapped place X3 _ _ (rule_number X1) (enumerate_from 0 b.instrs) _ (omega arith) (mapped_last place X4 _ _ (rule_number X3) (enumerate_from 0 b.instrs) (omega arith)))
+    mapped place X1 _ _ 0 b.regions _ (omega arith) (mapped place X2 _ _ (rule_number X1) (enumerate_from 0 b.regions) _ (omega arith) (mapped place X3 _ _ (rule_number X2) (enumerate_from 0 b.instrs) _ (omega arith) (mapped_last place X4 _ _ (rule_number X3) (enumerate_from 0 b.instrs) (omega arith))))
 
 pub first_broken : (place : Place) (b : Body) → MatchOption (lowest None (the_tests place b)) (NoneBroken (BreaksControl place b)) (First (BreaksControl place b))
 first_broken place b = lowest_is_first place (the_tests place b) (in_order place b)
@@ -123,5 +123,6 @@ lowest_joined : (best : Option Refusal) (xs ys : List Test) → lowest best (xs 
 lowest_joined best [] ys = refl
 lowest_joined best (x ∷ xs) ys = lowest_joined (lowered best x) xs ys
 
-pub lowest_of_three : (best : Option Refusal) (xs ys zs : List Test) → lowest (lowest (lowest best xs) ys) zs ≡ lowest best (xs ++ (ys ++ zs))
-lowest_of_three best xs ys zs = sym (lowest_joined best xs (ys ++ zs) ∙ lowest_joined (lowest best xs) ys zs)
+pub lowest_of_four : (best : Option Refusal) (ws xs ys zs : List Test) → lowest (lowest (lowest (lowest best ws) xs) ys) zs ≡ lowest best (ws ++ (xs ++ (ys ++ zs)))
+lowest_of_four best ws xs ys zs =
+    sym (lowest_joined best ws (xs ++ (ys ++ zs)) ∙ (lowest_joined (lowest best ws) xs (ys ++ zs) ∙ lowest_joined (lowest (lowest best ws) xs) ys zs))

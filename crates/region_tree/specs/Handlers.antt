@@ -1,9 +1,7 @@
 -- The handlers that a search from a place takes, in a table and in a tree (ECMA-335, I.12.4.2.5).
-use Rattle.std.specs.Prelude.{ℕ, ◌+◌, Bool, true, false, ◌&&◌, nat_lt, List, [], ◌∷◌, ◌++◌, length, filter, map, if◌then◌else◌}
-use Rattle.cil_base.specs.declared.token.Token.{Token}
+use Rattle.std.specs.Prelude.{ℕ, ◌+◌, nat_lt, List, [], ◌∷◌, ◌++◌, length, filter, map, if◌then◌else◌}
 use Rattle.cil_model.specs.declared.body.Region.{Region}
 use Rattle.cil_model.specs.declared.body.RegionKind.{RegionKind}
-use Rattle.cil_model.specs.declared.body.RegionKind.TheVariants as region
 use Rattle.cil_model.specs.declared.tree.Block.{Block}
 use Rattle.cil_model.specs.declared.tree.Block.TheOpen.{Block-F}
 use Rattle.cil_model.specs.declared.tree.Block.TheFolds.{fold-Block}

@@ -1,8 +1,8 @@
 -- The rules on regions and on what goes into them and out of them (ECMA-335, III.1.7.5, III.3.15 to 3.18, 3.35, 3.46, 3.57, 4.24).
-use Rattle.std.specs.Prelude.{ℕ, ◌+◌, Bool, true, false, ◌&&◌, ◌||◌, ◌==◌, not, nat_lt, List, [], ◌∷◌, ◌++◌, map, slice_index, Option, Some, None, if◌then◌else◌}
+use Rattle.std.specs.Prelude.{ℕ, Bool, true, false, ◌&&◌, ◌||◌, ◌==◌, not, nat_lt, List, [], ◌∷◌, ◌++◌, map, slice_index, take, Option, Some, None, if◌then◌else◌}
 use Rattle.std.specs.List.{list_any, enumerate_from}
 use Rattle.cil_base.specs.declared.rule.Rule.{Rule}
-use Rattle.cil_base.specs.declared.rule.Rule.TheVariants.{X1, X3, X4}
+use Rattle.cil_base.specs.declared.rule.Rule.TheVariants.{X1, X2, X3, X4}
 use Rattle.cil_base.specs.declared.refusal.Place.{Place}
 use Rattle.cil_base.specs.declared.refusal.Refusal.{Refusal}
 use Rattle.cil_base.specs.Refusals.{Test, Fails, refusal}
@@ -16,6 +16,7 @@ use Rattle.il_opcodes.specs.declared.class.Class.TheVariants as class
 use Rattle.il_opcodes.specs.Opcodes.{class_of}
 use Rattle.cil_semantics.specs.Unwind.{holds_place, in_try}
 use Rattle.il_flow.specs.Successors.{successors}
+use Rattle.region_tree.specs.Nesting.{breaks_nesting, depths_of}
 
 abbrev pub in_handler : Region → ℕ → Bool
 in_handler r q = holds_place r.handler_from r.handler_to q
@@ -103,6 +104,10 @@ test rule place at fails = record { refusal = refusal rule place at; fails = fai
 abbrev pub filter_test : Place → Body → Region → Test
 filter_test place b r = test X1 place (offset b r.try_from) (is_filter r.kind)
 
+abbrev pub nesting_test : Place → Body → ℕ × Region → Test
+nesting_test place b x =
+    test X2 place (offset b x.1.try_from) (breaks_nesting (take x.0 b.regions) x.1 (slice_index (depths_of b.regions) x.0))
+
 abbrev pub edge_test : Place → Body → ℕ × Instr → Test
 edge_test place b x = test X3 place (offset b x.0) (breaks_region b.regions x.0 x.1)
 
@@ -112,9 +117,10 @@ end_test place b x = test X4 place (offset b x.0) (is_out_of_place b.regions x.0
 abbrev pub the_tests : Place → Body → List Test
 the_tests place b =
     map (filter_test place b) b.regions
-    ++ (map (edge_test place b) (enumerate_from 0 b.instrs) ++ map (end_test place b) (enumerate_from 0 b.instrs))
+    ++ (map (nesting_test place b) (enumerate_from 0 b.regions)
+    ++ (map (edge_test place b) (enumerate_from 0 b.instrs) ++ map (end_test place b) (enumerate_from 0 b.instrs)))
 
--- X1, X3 or X4 is broken with this refusal.
+-- One of X1 to X4 is broken with this refusal.
 abbrev pub BreaksControl : Place → Body → Refusal → Type 0
 BreaksControl place b r = Fails (the_tests place b) r
 

@@ -1,5 +1,5 @@
 -- A body as nested blocks, and the table of clauses that it stands for (ECMA-335, I.12.4.2.7 and II.25.4.6).
-use Rattle.std.specs.Prelude.{◌≡◌, ℕ, ◌+◌, Bool, ◌||◌, IsTrue, List, [], ◌∷◌, ◌++◌, length, map, IsPermutation}
+use Rattle.std.specs.Prelude.{◌≡◌, ℕ, ◌+◌, ◌||◌, IsTrue, List, [], ◌∷◌, ◌++◌, length, map, IsPermutation}
 use Rattle.cil_model.specs.declared.body.Body.{Body}
 use Rattle.cil_model.specs.declared.body.Instr.{Instr}
 use Rattle.cil_model.specs.declared.body.Region.{Region}

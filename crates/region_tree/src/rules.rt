@@ -1,13 +1,16 @@
 // The first rule on regions that a body breaks.
-ghost use Rattle.std.specs.Prelude.{◌≡◌, ◌<◌, ◌^◌, length, map, MatchOption, None};
+ghost use Rattle.std.specs.Prelude.{◌≡◌, ◌<◌, ◌^◌, length, map, IfOk, MatchOption, None};
 ghost use Rattle.std.specs.List.{enumerate_from};
 ghost use Rattle.cil_base.specs.Refusals.{First, NoneBroken};
-ghost use Rattle.region_tree.specs.Rules.{BreaksControl, beats, edge_test, end_test, filter_test, is_filter, lowered, lowest, the_tests};
+ghost use Rattle.region_tree.specs.Nesting.{depths_of};
+ghost use Rattle.region_tree.specs.Rules.{BreaksControl, beats, edge_test, end_test, filter_test, is_filter, lowered, lowest, nesting_test, the_tests};
 
 use crate::edges::{breaks_region, is_out_of_place};
+use crate::nesting::{breaks_nesting, depths_of};
 use cil_base::{Place, Refusal, Rule};
 use cil_model::{Body, RegionKind};
 use il_flow::offset_of;
+use std::alloc::{AllocError, Global};
 
 fn beats(found: Refusal, best: Option<Refusal>) -> bool
     ensures { result ≡ beats found best }
@@ -43,6 +46,28 @@ fn filter_fault(body: &Body, place: Place, first: Option<Refusal>) -> Option<Ref
     for region in body.regions.as_slice() {
         let found = place.refusal(Rule::X1, offset_of(&body.offsets, region.try_from));
         best = lowered(best, found, is_filter(&region.kind));
+    }
+    best
+}
+
+fn nesting_fault(
+    body: &Body,
+    depths: &[usize],
+    place: Place,
+    first: Option<Refusal>,
+) -> Option<Refusal>
+    requires { depths.now ≡ depths_of body.now.regions }
+    ensures { result ≡ lowest first (map (nesting_test place body.now) (enumerate_from 0 body.now.regions)) }
+{
+    let mut best = first;
+    let regions = body.regions.as_slice();
+    for k in 0..regions.len() {
+        let found = place.refusal(Rule::X2, offset_of(&body.offsets, regions[k].try_from));
+        best = lowered(
+            best,
+            found,
+            breaks_nesting(&regions[..k], &regions[k], depths[k]),
+        );
     }
     best
 }
@@ -83,22 +108,30 @@ fn end_fault(body: &Body, place: Place, first: Option<Refusal>) -> Option<Refusa
     best
 }
 
-#[tactic(auto, using(crate::proofs::LowestLaws::lowest_of_three))]
-fn lowest_fault(body: &Body, place: Place) -> Option<Refusal>
-    requires { length body.now.instrs < 2 ^ 32 }
+#[tactic(auto, using(crate::proofs::LowestLaws::lowest_of_four))]
+fn lowest_fault(body: &Body, depths: &[usize], place: Place) -> Option<Refusal>
+    requires few { length body.now.instrs < 2 ^ 32 }
+    requires depths { depths.now ≡ depths_of body.now.regions }
     ensures { result ≡ lowest None (the_tests place body.now) }
 {
     let filter = filter_fault(body, place, None);
-    let edge = edge_fault(body, place, filter);
+    let nesting = nesting_fault(body, depths, place, filter);
+    let edge = edge_fault(body, place, nesting);
     end_fault(body, place, edge)
 }
 
-/// The first of X1, X3 and X4 that a body breaks, at the offset of the region's try or of the
-/// instruction (ECMA-335, III.1.7.5).
+/// The first of X1 to X4 that a body breaks, at the offset of the region's try or of the instruction
+/// (ECMA-335, III.1.7.5).
 #[tactic(auto, using(crate::proofs::LowestLaws::first_broken))]
-pub fn control_fault(body: &Body, place: Place) -> Option<Refusal>
+pub fn control_fault(
+    alloc: Global,
+    body: &Body,
+    place: Place,
+) -> Result<Option<Refusal>, AllocError>
     requires { length body.now.instrs < 2 ^ 32 }
-    ensures { MatchOption result (NoneBroken (BreaksControl place body.now)) (First (BreaksControl place body.now)) }
+    ensures { IfOk result (λ fault. MatchOption fault (NoneBroken (BreaksControl place body.now)) (First (BreaksControl place body.now))) }
 {
-    lowest_fault(body, place)
+    let depths = depths_of(alloc, body.regions.as_slice())?;
+    let fault = lowest_fault(body, &depths, place);
+    Ok(fault)
 }

@@ -1,0 +1,8 @@
+use Rattle.std.proofs.Common.{◌≡◌, drop}
+use Rattle.std.specs.Prelude.{map}
+use Rattle.std.specs.List.{enumerate_from}
+use Rattle.region_tree.specs.Rules.{nesting_test, lowest}
+use Rattle.region_tree.proofs.rules.nesting_fault.Given as goal
+
+abbrev pub invariant-loop-k : goal.invariant-loop-k
+invariant-loop-k l = lowest l.best (map (nesting_test l.place l.body) (enumerate_from l.k (drop l.k l.body.regions))) ≡ lowest l.fn.first (map (nesting_test l.place l.body) (enumerate_from 0 l.body.regions))
