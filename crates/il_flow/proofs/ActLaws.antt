@@ -1,11 +1,11 @@
 -- What the act of an instruction leaves on the stack, where the values that it takes are there.
-use Rattle.std.proofs.Common.{◌≡◌, ◌+◌, ℕ, suc, Bool, true, false, List, [], ◌∷◌, length, drop, Option, Some, None, refl, sym, ap, ◌∙◌, arith}
+use Rattle.std.proofs.Common.{◌≡◌, ◌+◌, ℕ, Bool, true, false, List, [], ◌∷◌, length, Option, Some, None, arith}
 use Rattle.std.specs.Prelude.{if◌then◌else◌, nat_le, nat_lt, ℤ, pos, negsuc, slice_get, option_and_then, ◌&&◌, not, codes}
 use Rattle.std.proofs.lemmas.List.{length-drop}
 use Rattle.cil_model.specs.declared.ty.Ty.{Ty, out-Ty}
 use Rattle.cil_model.specs.declared.program.Program.{Program}
 use Rattle.cil_model.specs.declared.program.Meaning.{Meaning}
-use Rattle.cil_model.specs.declared.program.Meaning.TheVariants.{OfType, OfField, OfMethod, OfText, OfLocals}
+use Rattle.cil_model.specs.declared.program.Meaning.TheVariants.{OfType, OfField, OfMethod}
 use Rattle.cil_model.specs.declared.body.Instr.{Instr}
 use Rattle.cil_model.specs.declared.body.Operand.{Operand}
 use Rattle.cil_model.specs.declared.body.Operand.TheVariants.{Int, Index, Target, Targets}
@@ -29,14 +29,14 @@ use Rattle.cil_semantics.specs.declared.state.Local as state
 use Rattle.cil_semantics.specs.declared.state.World.{World}
 use Rattle.cil_semantics.specs.declared.state.Object.{Object}
 use Rattle.cil_semantics.specs.declared.state.Access.TheVariants.{Read, Write, PointTo}
-use Rattle.cil_semantics.specs.State.{next_object, with_stack, object_at}
+use Rattle.cil_semantics.specs.State.{with_stack, object_at}
 use Rattle.cil_semantics.specs.Types.{same_ty}
 use Rattle.cil_semantics.specs.Lookups.{is_sub, field_of, in_set}
 use Rattle.cil_semantics.specs.Places.{set_cell, new_cell, field_place, fields_in, is_reference, storage, stored, stored_in}
 use Rattle.cil_semantics.specs.Numbers.{lies_in}
 use Rattle.cil_semantics.specs.Tokens.{Here, meaning_here}
 use Rattle.cil_semantics.specs.Instructions.{act_of_class, throw_value, leave_to, push_function}
-use Rattle.cil_semantics.specs.Acts.{Act, Stuck, GoOn, Jump, Raise, null_reference, invalid_cast, overflow, out_of_range, goes_with, goes_with_new, Store, Load, UseStatic, is_null, dynamic_type, field_of_object, field_of_value, extended, item_type, index_number, fits_item, text_in, handle_of, size_at, shift, shift_count, unary, convert, compare, truth, read_number, put_in, LoadVirtualFunction, on_top, on_two, if_some, if_pointer, on_pointer, number_act, compute, paired, numeric, convert_checked, cast, unboxed, unbox, box, branch, switch, load_argument, load_local, store_argument, store_local, point_to_argument, point_to_local, push_int, on_field, load_field, point_to_field, store_field, on_static, made_array, on_array, at_index, on_item, put_item, store_item, on_type, taken, is_wanted}
+use Rattle.cil_semantics.specs.Acts.{Act, Stuck, GoOn, Jump, Raise, invalid_cast, overflow, out_of_range, goes_with, goes_with_new, Store, Load, UseStatic, is_null, dynamic_type, field_of_object, field_of_value, extended, item_type, index_number, fits_item, text_in, handle_of, size_at, shift, shift_count, unary, convert, compare, truth, read_number, put_in, LoadVirtualFunction, on_top, on_two, if_some, if_pointer, number_act, compute, paired, numeric, convert_checked, cast, unboxed, branch, switch, load_argument, load_local, store_argument, store_local, point_to_argument, point_to_local, push_int, on_field, load_field, point_to_field, store_field, on_static, made_array, on_array, at_index, on_item, store_item, on_type, taken, is_wanted}
 use Rattle.il_flow.specs.Counts.{counts, Leaves, TakesAndLeaves}
 
 -- the law of one act, as a record: so a proof's goal tells which act it is of

@@ -1,5 +1,5 @@
 -- Where the search finds no fault, what it leaves agrees with every path, and has no height that another such map hasn't.
-use Rattle.std.proofs.Common.{◌≡◌, ◌≢◌, ◌⊎◌, inl, inr, ◌<◌, ◌≤◌, ◌+◌, ℕ, zero, suc, Bool, true, false, cond, ◌&&◌, ◌||◌, not, List, [], ◌∷◌, length, get_or, set, Option, Some, None, Result, Ok, Err, refl, sym, ap, ◌∙◌, arith, subst, Contains}
+use Rattle.std.proofs.Common.{◌≡◌, ◌≢◌, ◌⊎◌, inl, inr, ◌<◌, ◌≤◌, ℕ, zero, suc, Bool, true, false, cond, ◌&&◌, ◌||◌, not, List, [], ◌∷◌, length, get_or, set, Option, Some, None, Result, Ok, Err, refl, sym, ap, ◌∙◌, arith, subst, Contains}
 use Rattle.std.specs.Prelude.{filter, map, replicate, slice_get, slice_set, position, MatchOption, if◌then◌else◌, nat_lt, ◌==◌, option_and_then}
 use Rattle.std.specs.List.{position_or_len}
 use Rattle.std.proofs.lemmas.Bool.{cases_eq}
@@ -14,9 +14,9 @@ use Rattle.il_flow.specs.declared.mark.Mark.{Mark}
 use Rattle.il_flow.specs.declared.mark.Mark.TheVariants.{Unseen, Waits, Passed}
 use Rattle.il_flow.specs.Effects.{height_after}
 use Rattle.il_flow.specs.Successors.{successors}
-use Rattle.il_flow.specs.Heights.{Agrees, Finds, ends, stops, goes, SearchFinds, begun, beginnings, begin_each, begin_fault, is_wrong, begins_try, cant_go, cant_have, clashes, differs, fault_by, give, give_each, height_at, height_in, is_unseen, is_waiting, least, least_of, passed_by}
+use Rattle.il_flow.specs.Heights.{Agrees, Finds, ends, stops, goes, SearchFinds, begun, beginnings, begin_each, begin_fault, is_wrong, begins_try, cant_go, cant_have, clashes, differs, fault_by, give, give_each, height_at, height_in, is_unseen, is_waiting, least, passed_by}
 use Rattle.il_flow.proofs.QueueLaws.{get_set_same, get_set_other, unseen_there}
-use Rattle.il_flow.proofs.NoMapLaws.{In, contains, below_begun, below_end}
+use Rattle.il_flow.proofs.NoMapLaws.{In, below_begun, below_end}
 
 -- ---- membership
 

@@ -6,7 +6,7 @@ use Rattle.il_opcodes.specs.declared.class.Class.TheVariants as class
 use Rattle.cil_semantics.specs.declared.state.Access.{Access}
 use Rattle.cil_semantics.specs.declared.state.Access.TheVariants.{Read, Write, PointTo}
 use Rattle.cil_semantics.specs.declared.state.Local.{Local}
-use Rattle.cil_semantics.specs.Acts.{Act, Stuck, GoOn, Jump, Raise, Throw, Rethrow, Leave, EndHandler, Return, Load, Store, Copy, UseStatic, CallMember, CallVirtual, NewObject, LoadVirtualFunction}
+use Rattle.cil_semantics.specs.Acts.{Act, GoOn, Jump, Load, Store, Copy, UseStatic, LoadVirtualFunction}
 
 -- none for calls, ret and what the machine doesn't run (each instruction's stack transition in ECMA-335, III.3 and III.4)
 abbrev pub counts : Class → Option (ℕ × ℕ)

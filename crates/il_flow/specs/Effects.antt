@@ -1,5 +1,5 @@
 -- How many values an instruction takes from the stack and leaves there (ECMA-335, III.1.7.2 and each instruction's stack transition).
-use Rattle.std.specs.Prelude.{ℕ, ◌+◌, ◌-◌, Bool, true, false, List, length, Option, Some, None, unwrap_or, if◌then◌else◌}
+use Rattle.std.specs.Prelude.{ℕ, ◌+◌, ◌-◌, true, false, length, Option, Some, None, unwrap_or, if◌then◌else◌}
 use Rattle.cil_model.specs.declared.ty.Ty.{out-Ty}
 use Rattle.cil_model.specs.declared.body.Operand.{Operand}
 use Rattle.cil_model.specs.declared.body.Operand.TheVariants.{Tok}

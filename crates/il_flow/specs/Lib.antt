@@ -7,3 +7,6 @@ pub mod Boundaries
 pub mod Reach
 pub mod Ranges
 pub mod Counts
+pub mod Lowest
+pub mod Meanings
+pub mod Methods

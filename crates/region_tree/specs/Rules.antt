@@ -1,11 +1,10 @@
 -- The rules on regions and on what goes into them and out of them (ECMA-335, III.1.7.5, III.3.15 to 3.18, 3.35, 3.46, 3.57, 4.24).
-use Rattle.std.specs.Prelude.{ℕ, Bool, true, false, ◌&&◌, ◌||◌, ◌==◌, not, nat_lt, List, [], ◌∷◌, ◌++◌, map, slice_index, take, Option, Some, None, if◌then◌else◌}
+use Rattle.std.specs.Prelude.{ℕ, Bool, true, false, ◌&&◌, ◌||◌, ◌==◌, not, List, ◌++◌, map, slice_index, take}
 use Rattle.std.specs.List.{list_any, enumerate_from}
-use Rattle.cil_base.specs.declared.rule.Rule.{Rule}
 use Rattle.cil_base.specs.declared.rule.Rule.TheVariants.{X1, X2, X3, X4}
 use Rattle.cil_base.specs.declared.refusal.Place.{Place}
 use Rattle.cil_base.specs.declared.refusal.Refusal.{Refusal}
-use Rattle.cil_base.specs.Refusals.{Test, Fails, refusal}
+use Rattle.cil_base.specs.Refusals.{Test, Fails}
 use Rattle.cil_model.specs.declared.body.Body.{Body}
 use Rattle.cil_model.specs.declared.body.Instr.{Instr}
 use Rattle.cil_model.specs.declared.body.Region.{Region}
@@ -15,6 +14,7 @@ use Rattle.il_opcodes.specs.declared.class.Class.{Class}
 use Rattle.il_opcodes.specs.declared.class.Class.TheVariants as class
 use Rattle.il_opcodes.specs.Opcodes.{class_of}
 use Rattle.cil_semantics.specs.Unwind.{holds_place, in_try}
+use Rattle.il_flow.specs.Lowest.{test}
 use Rattle.il_flow.specs.Successors.{successors}
 use Rattle.region_tree.specs.Nesting.{breaks_nesting, depths_of}
 
@@ -98,9 +98,6 @@ is_out_of_place rs k i =
 abbrev pub offset : Body → ℕ → ℕ
 offset b k = slice_index b.offsets k
 
-abbrev pub test : Rule → Place → ℕ → Bool → Test
-test rule place at fails = record { refusal = refusal rule place at; fails = fails }
-
 abbrev pub filter_test : Place → Body → Region → Test
 filter_test place b r = test X1 place (offset b r.try_from) (is_filter r.kind)
 
@@ -123,17 +120,3 @@ the_tests place b =
 -- One of X1 to X4 is broken with this refusal.
 abbrev pub BreaksControl : Place → Body → Refusal → Type 0
 BreaksControl place b r = Fails (the_tests place b) r
-
--- ---- the first of them
-
-abbrev pub beats : Refusal → Option Refusal → Bool
-beats r None = true
-beats r (Some s) = nat_lt r.at s.at
-
--- the refusal of a test that fails at a lower offset than the best before it
-abbrev pub lowered : Option Refusal → Test → Option Refusal
-lowered best t = if t.fails && beats t.refusal best then Some t.refusal else best
-
-abbrev pub lowest : Option Refusal → List Test → Option Refusal
-lowest best [] = best
-lowest best (t ∷ ts) = lowest (lowered best t) ts

@@ -2,33 +2,16 @@
 ghost use Rattle.std.specs.Prelude.{◌≡◌, ◌<◌, ◌^◌, length, map, IfOk, MatchOption, None};
 ghost use Rattle.std.specs.List.{enumerate_from};
 ghost use Rattle.cil_base.specs.Refusals.{First, NoneBroken};
+ghost use Rattle.il_flow.specs.Lowest.{lowest};
 ghost use Rattle.region_tree.specs.Nesting.{depths_of};
-ghost use Rattle.region_tree.specs.Rules.{BreaksControl, beats, edge_test, end_test, filter_test, is_filter, lowered, lowest, nesting_test, the_tests};
+ghost use Rattle.region_tree.specs.Rules.{BreaksControl, edge_test, end_test, filter_test, is_filter, nesting_test, the_tests};
 
 use crate::edges::{breaks_region, is_out_of_place};
 use crate::nesting::{breaks_nesting, depths_of};
 use cil_base::{Place, Refusal, Rule};
 use cil_model::{Body, RegionKind};
-use il_flow::offset_of;
+use il_flow::{lowered, offset_of};
 use std::alloc::{AllocError, Global};
-
-fn beats(found: Refusal, best: Option<Refusal>) -> bool
-    ensures { result ≡ beats found best }
-{
-    match best {
-        None => true,
-        Some(best) => found.at < best.at,
-    }
-}
-
-fn lowered(best: Option<Refusal>, found: Refusal, fails: bool) -> Option<Refusal>
-    ensures { result ≡ lowered best (record { refusal = found; fails = fails }) }
-{
-    if fails && beats(found, best) {
-        return Some(found);
-    }
-    best
-}
 
 fn is_filter(kind: &RegionKind) -> bool
     ensures { result ≡ is_filter kind.now }
@@ -108,7 +91,7 @@ fn end_fault(body: &Body, place: Place, first: Option<Refusal>) -> Option<Refusa
     best
 }
 
-#[tactic(auto, using(crate::proofs::LowestLaws::lowest_of_four))]
+#[tactic(auto, using(crate::proofs::ControlLaws::lowest_of_four))]
 fn lowest_fault(body: &Body, depths: &[usize], place: Place) -> Option<Refusal>
     requires few { length body.now.instrs < 2 ^ 32 }
     requires depths { depths.now ≡ depths_of body.now.regions }
@@ -122,7 +105,7 @@ fn lowest_fault(body: &Body, depths: &[usize], place: Place) -> Option<Refusal>
 
 /// The first of X1 to X4 that a body breaks, at the offset of the region's try or of the instruction
 /// (ECMA-335, III.1.7.5).
-#[tactic(auto, using(crate::proofs::LowestLaws::first_broken))]
+#[tactic(auto, using(crate::proofs::ControlLaws::first_broken))]
 pub fn control_fault(
     alloc: Global,
     body: &Body,

@@ -1,5 +1,5 @@
-use Rattle.std.proofs.Common.{◌≡◌, ◌<◌, ◌+◌, ◌++◌, ◌∙◌, ap, subst, sym, refl, List, [], ◌∷◌, length, take, arith, ℕ, append-nil, replicate, true, false, Bool, get_or}
-use Rattle.std.specs.Prelude.{filter, ◌&&◌, ◌==◌, not, nat_lt, if◌then◌else◌}
+use Rattle.std.proofs.Common.{◌≡◌, ◌<◌, ◌+◌, ◌∙◌, ap, sym, List, length, take, arith, ℕ, append-nil, replicate, true, false, get_or}
+use Rattle.std.specs.Prelude.{filter, ◌&&◌, ◌==◌, not, nat_lt}
 use Rattle.std.specs.List.{range_with_len}
 use Rattle.std.proofs.lemmas.List.{length-replicate, get_or_read}
 use Rattle.std.proofs.Common.{max}

@@ -1,7 +1,7 @@
 use Rattle.cil_model.specs.declared.ty.Ty as X
-use Rattle.std.proofs.Common.{◌≡◌, ◌∙◌, ap, sym, refl, length}
+use Rattle.std.proofs.Common.{◌∙◌, ap}
 use Rattle.cil_model.specs.declared.program.MethodDesc.{MethodDesc}
-use Rattle.cil_semantics.specs.Lookups.{method_of, no_method}
+use Rattle.cil_semantics.specs.Lookups.{no_method}
 use Rattle.il_flow.specs.Effects.{plain, count_arguments, count_results}
 use Rattle.il_flow.proofs.FindLaws.{absent}
 use Rattle.il_flow.proofs.effect.known_call.Goals as goal

@@ -1,7 +1,7 @@
-use Rattle.std.proofs.Common.{◌≡◌, ◌∙◌, ap, sym, refl, length}
+use Rattle.std.proofs.Common.{◌∙◌, ap, length}
 use Rattle.cil_model.specs.declared.program.MethodDesc.{MethodDesc}
-use Rattle.cil_semantics.specs.Lookups.{method_of, no_method}
-use Rattle.il_flow.specs.Effects.{plain, count_arguments, count_results}
+use Rattle.cil_semantics.specs.Lookups.{no_method}
+use Rattle.il_flow.specs.Effects.{plain}
 use Rattle.il_flow.proofs.FindLaws.{absent}
 use Rattle.il_flow.proofs.effect.known_new.Goals as goal
 

@@ -1,6 +1,7 @@
 use Rattle.std.proofs.Common.{◌≡◌, drop}
 use Rattle.std.specs.Prelude.{map}
-use Rattle.region_tree.specs.Rules.{filter_test, lowest}
+use Rattle.il_flow.specs.Lowest.{lowest}
+use Rattle.region_tree.specs.Rules.{filter_test}
 use Rattle.region_tree.proofs.rules.filter_fault.Given as goal
 
 abbrev pub invariant-loop-region : goal.invariant-loop-region

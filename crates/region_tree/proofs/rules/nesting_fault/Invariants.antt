@@ -1,7 +1,8 @@
 use Rattle.std.proofs.Common.{◌≡◌, drop}
 use Rattle.std.specs.Prelude.{map}
 use Rattle.std.specs.List.{enumerate_from}
-use Rattle.region_tree.specs.Rules.{nesting_test, lowest}
+use Rattle.il_flow.specs.Lowest.{lowest}
+use Rattle.region_tree.specs.Rules.{nesting_test}
 use Rattle.region_tree.proofs.rules.nesting_fault.Given as goal
 
 abbrev pub invariant-loop-k : goal.invariant-loop-k

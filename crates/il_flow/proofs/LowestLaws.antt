@@ -1,10 +1,7 @@
 -- The failing test of the lowest offset is the first refusal, where the tests are of one place and their rules come in order.
-use Rattle.std.proofs.Common.{◌≡◌, ℕ, ◌≤◌, Bool, true, false, cond, ◌&&◌, List, [], ◌∷◌, ◌++◌, Option, Some, None, refl, sym, subst, ◌∙◌, ◌⊎◌, inl, inr, arith}
+use Rattle.std.proofs.Common.{◌≡◌, ℕ, ◌≤◌, Bool, true, false, cond, ◌&&◌, List, [], ◌∷◌, ◌++◌, Option, Some, None, refl, subst, ◌⊎◌, inl, inr, arith}
 use Rattle.std.specs.Prelude.{MatchOption, map}
-use Rattle.std.specs.List.{enumerate_from}
 use Rattle.cil_base.specs.declared.rule.Rule.{Rule}
-use Rattle.cil_base.specs.declared.rule.Rule.TheVariants.{X1, X2, X3, X4}
-use Rattle.cil_model.specs.declared.body.Body.{Body}
 use Rattle.std.proofs.lemmas.Bool.{ltb-false}
 use Rattle.cil_base.proofs.Small.{less}
 use Rattle.cil_base.proofs.RefusalLaws.{not_less, less_refl, less_trans}
@@ -12,7 +9,7 @@ use Rattle.cil_base.specs.declared.refusal.Place.{Place}
 use Rattle.cil_base.specs.declared.refusal.Refusal.{Refusal}
 use Rattle.cil_base.specs.Rules.{rule_number}
 use Rattle.cil_base.specs.Refusals.{key, is_less, First, NoneBroken, Test, Fails}
-use Rattle.region_tree.specs.Rules.{beats, lowered, lowest, test, the_tests, BreaksControl}
+use Rattle.il_flow.specs.Lowest.{beats, lowered, lowest, test}
 
 -- the refusal is of the place, and its rule's number isn't below
 pub record IsOf (place : Place) (n : ℕ) (r : Refusal) : Type 0 where
@@ -98,31 +95,20 @@ lowest_is_first place ts x =
 
 -- ---- the order of the tests
 
-lower_bound : (place : Place) (m n : ℕ) (ts : List Test) → n ≤ m → InOrder place m ts → InOrder place n ts
+pub lower_bound : (place : Place) (m n : ℕ) (ts : List Test) → n ≤ m → InOrder place m ts → InOrder place n ts
 lower_bound place m n [] le x = tt
 lower_bound place m n (t ∷ ts) le x = (record { assembly = x.0.assembly; table = x.0.table; row = x.0.row; number = omega (arith, x.0.number) }, x.1)
 
-mapped : {X : Type 0} (place : Place) (rule : Rule) (at : X → ℕ) (fails : X → Bool) (n : ℕ) (xs : List X) (rest : List Test) → n ≤ rule_number rule → InOrder place (rule_number rule) rest → InOrder place n (map (λ x. test rule place (at x) (fails x)) xs ++ rest)
+pub mapped : {X : Type 0} (place : Place) (rule : Rule) (at : X → ℕ) (fails : X → Bool) (n : ℕ) (xs : List X) (rest : List Test) → n ≤ rule_number rule → InOrder place (rule_number rule) rest → InOrder place n (map (λ x. test rule place (at x) (fails x)) xs ++ rest)
 mapped place rule at fails n [] rest le x = lower_bound place (rule_number rule) n rest le x
 mapped place rule at fails n (y ∷ ys) rest le x =
     (record { assembly = refl; table = refl; row = refl; number = le }, mapped place rule at fails (rule_number rule) ys rest (omega arith) x)
 
-mapped_last : {X : Type 0} (place : Place) (rule : Rule) (at : X → ℕ) (fails : X → Bool) (n : ℕ) (xs : List X) → n ≤ rule_number rule → InOrder place n (map (λ x. test rule place (at x) (fails x)) xs)
+pub mapped_last : {X : Type 0} (place : Place) (rule : Rule) (at : X → ℕ) (fails : X → Bool) (n : ℕ) (xs : List X) → n ≤ rule_number rule → InOrder place n (map (λ x. test rule place (at x) (fails x)) xs)
 mapped_last place rule at fails n [] le = tt
 mapped_last place rule at fails n (y ∷ ys) le =
     (record { assembly = refl; table = refl; row = refl; number = le }, mapped_last place rule at fails (rule_number rule) ys (omega arith))
 
-in_order : (place : Place) (b : Body) → InOrder place 0 (the_tests place b)
-in_order place b =
-    mapped place X1 _ _ 0 b.regions _ (omega arith) (mapped place X2 _ _ (rule_number X1) (enumerate_from 0 b.regions) _ (omega arith) (mapped place X3 _ _ (rule_number X2) (enumerate_from 0 b.instrs) _ (omega arith) (mapped_last place X4 _ _ (rule_number X3) (enumerate_from 0 b.instrs) (omega arith))))
-
-pub first_broken : (place : Place) (b : Body) → MatchOption (lowest None (the_tests place b)) (NoneBroken (BreaksControl place b)) (First (BreaksControl place b))
-first_broken place b = lowest_is_first place (the_tests place b) (in_order place b)
-
-lowest_joined : (best : Option Refusal) (xs ys : List Test) → lowest best (xs ++ ys) ≡ lowest (lowest best xs) ys
+pub lowest_joined : (best : Option Refusal) (xs ys : List Test) → lowest best (xs ++ ys) ≡ lowest (lowest best xs) ys
 lowest_joined best [] ys = refl
 lowest_joined best (x ∷ xs) ys = lowest_joined (lowered best x) xs ys
-
-pub lowest_of_four : (best : Option Refusal) (ws xs ys zs : List Test) → lowest (lowest (lowest (lowest best ws) xs) ys) zs ≡ lowest best (ws ++ (xs ++ (ys ++ zs)))
-lowest_of_four best ws xs ys zs =
-    sym (lowest_joined best ws (xs ++ (ys ++ zs)) ∙ (lowest_joined (lowest best ws) xs (ys ++ zs) ∙ lowest_joined (lowest (lowest best ws) xs) ys zs))

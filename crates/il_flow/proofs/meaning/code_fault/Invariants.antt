@@ -1,0 +1,9 @@
+use Rattle.std.proofs.Common.{◌≡◌, drop}
+use Rattle.std.specs.Prelude.{map}
+use Rattle.std.specs.List.{enumerate_from}
+use Rattle.il_flow.specs.Lowest.{lowest}
+use Rattle.il_flow.specs.Meanings.{instr_test}
+use Rattle.il_flow.proofs.meaning.code_fault.Given as goal
+
+abbrev pub invariant-loop-k : goal.invariant-loop-k
+invariant-loop-k l = lowest l.best (map (instr_test l.program l.own l.place l.body) (enumerate_from l.k (drop l.k l.body.instrs))) ≡ lowest l.fn.first (map (instr_test l.program l.own l.place l.body) (enumerate_from 0 l.body.instrs))
