@@ -1,0 +1,9 @@
+//! Tests of what bodies do to their stacks and regions.
+#![tactic(auto)]
+
+#[cfg(test)]
+mod bodies;
+#[cfg(test)]
+mod control;
+#[cfg(test)]
+mod stack;
