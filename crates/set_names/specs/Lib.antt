@@ -1,0 +1,4 @@
+pub mod Names
+pub mod Paths
+pub mod Distinct
+pub mod Cycles
