@@ -1,0 +1,4 @@
+pub mod CodedIndexes
+pub mod SignatureTypes
+pub mod CodedTypes
+pub mod SignatureRules
