@@ -1,0 +1,4 @@
+pub mod Keys
+pub mod MemberRows
+pub mod OutsideMembers
+pub mod Bases

@@ -1,0 +1,83 @@
+// The members that are in no assembly of the set, each once.
+ghost use Rattle.std.specs.Prelude.{◌≡◌, ◌<◌, ◌^◌, ◌+◌, ◌++◌, ◌∷◌, [], length, IfOk, OnOk};
+ghost use Rattle.members.specs.Keys.{ended_list, member_key};
+ghost use Rattle.members.specs.OutsideMembers.{outside_key, member_place, added_member};
+
+use crate::declaring::{member_key, push_ended};
+use crate::keys::Keys;
+use crate::outside_member::OutsideMember;
+use cil_base::U32s;
+use std::alloc::{AllocError, Global};
+use std::marker::Model;
+
+/// Outside members in the order in which they were noted.
+#[derive(Drop)]
+pub struct Outside {
+    keys: Keys,
+    members: Vec<OutsideMember>,
+}
+
+impl Model for Outside {
+    ghost use Rattle.std.specs.Prelude.{List, Vec};
+    ghost use Rattle.members.specs.declared.outside_member.OutsideMember.{OutsideMember};
+
+    ghost Value = { List OutsideMember };
+
+    ghost use Rattle.members.specs.OutsideMembers.{AreKeyed};
+
+    ghost view = { λ o. o.members.items };
+
+    ghost invariant = { λ o. AreKeyed o.keys o.members.items };
+}
+
+/// The key of an outside member.
+fn outside_key(alloc: Global, member: &OutsideMember) -> Result<U32s, AllocError>
+    ensures { IfOk result (λ key. key ≡ outside_key member.now) }
+{
+    let mut key = U32s::new(alloc);
+    push_ended(&mut key, member.owner.as_slice())?;
+    key.append(member_key(alloc, 0, &member.shape)?)?;
+    Ok(key)
+}
+
+impl Outside {
+    pub fn new(alloc: Global) -> Outside
+        ensures { result ≡ [] }
+    {
+        Outside {
+            keys: Keys::new(alloc),
+            members: Vec::new(alloc),
+        }
+    }
+
+    pub fn len(&self) -> usize
+        ensures { result ≡ length self.now }
+    {
+        self.members.len()
+    }
+
+    /// The place of a member.
+    pub fn place(&self, alloc: Global, member: &OutsideMember) -> Result<Option<u32>, AllocError>
+        ensures { IfOk result (λ k. k ≡ member_place self.now member.now) }
+    {
+        let key = outside_key(alloc, member)?;
+        Ok(self.keys.number(key.as_slice()))
+    }
+
+    /// With a member that is to stand there once.
+    pub fn with(self, alloc: Global, member: OutsideMember) -> Result<Outside, AllocError>
+        requires { length self + 1 < 2 ^ 32 }
+        ensures { IfOk result (λ o. o ≡ added_member self member) }
+    {
+        let key = outside_key(alloc, &member)?;
+        if self.keys.number(key.as_slice()).is_some() {
+            return Ok(self);
+        }
+        let Outside { keys, members } = self;
+        let mut keys = keys;
+        let mut members = members;
+        keys.note(alloc, key.as_slice(), members.len() as u32)?;
+        members.push(member)?;
+        Ok(Outside { keys, members })
+    }
+}
