@@ -1,0 +1,11 @@
+pub mod ListLaws
+pub mod RowLaws
+pub mod ForwardLaws
+pub mod AlongLaws
+pub mod AppendLaws
+pub mod NumberLaws
+pub mod ReferenceRowLaws
+pub mod NestingLaws
+pub mod IndexLaws
+pub mod PlaceLaws
+pub mod FileLaws

@@ -1,0 +1,13 @@
+pub mod Files
+pub mod TypeNames
+pub mod References
+pub mod Numbering
+pub mod Parts
+pub mod Steps
+pub mod Attributes
+pub mod Environment
+pub mod Kinds
+pub mod TypeRules
+pub mod Appended
+pub mod ReferenceRules
+pub mod Nesting
