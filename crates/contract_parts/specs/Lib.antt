@@ -1,0 +1,4 @@
+pub mod Flow
+pub mod CallKinds
+pub mod Parts
+pub mod Closures
