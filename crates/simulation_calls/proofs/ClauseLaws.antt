@@ -22,6 +22,7 @@ use Rattle.cil_semantics.specs.Returns.{piece_over}
 use Rattle.cil_semantics.specs.Checks.{AddedNumbers, Failure, Condition, check}
 use Rattle.splice_facts.specs.Bodies.{with_methods}
 use Rattle.splice_facts.specs.Grown.{beside}
+use Rattle.splice_facts.specs.WellFormed.{WellFormedObjects}
 use Rattle.splice_facts.specs.Layout.{Marks}
 use Rattle.splice_facts.specs.Spliced.{clause_failure, from_here, Checked, failure_cost}
 use Rattle.splice_facts.specs.Related.{Rewritten, Under, FramePair, Waits, count_groups, in_group}
@@ -34,7 +35,7 @@ use Rattle.simulation.proofs.UnwindLaws.{as_many, unwinds, unwinds_at}
 use Rattle.simulation_steps.proofs.ReturnLaws as Returning
 use Rattle.simulation_calls.proofs.CheckLaws as Checking
 
-not_inline : (c : Plan) (gr : Group) (j : ℕ) (x : Piece) → piece_at (Some c) gr j ≡ Some x → gr ≡ group.Inline → ⊥
+pub not_inline : (c : Plan) (gr : Group) (j : ℕ) (x : Piece) → piece_at (Some c) gr j ≡ Some x → gr ≡ group.Inline → ⊥
 not_inline c gr j x e q = let z : slice_get (pieces c group.Inline) j ≡ Some x = ap (λ y. slice_get (pieces c y) j) (sym q) ∙ e in absurd (cc z)
 
 module _ (p : Program) (k : Contracts) (ms : List MethodDesc) (g : AddedNumbers) (r : Rewritten p k ms g) where
@@ -60,9 +61,9 @@ module _ (p : Program) (k : Contracts) (ms : List MethodDesc) (g : AddedNumbers)
   IsBeside w ss = Unwinding.IsBeside p k ms g r w ss
 
   abbrev ending : ℕ → ℕ
-  ending n = 3 * cst + lay (suc n)
+  ending n = 4 * cst + lay (suc (suc n))
 
-  fits_in : (gr : Group) (j q : ℕ) (h : Frame) (fs : List Frame) → h.at ≡ InGroup gr j q → Pairs.Standing p k ms g r h fs → Unwinding.Fits p k ms g r gr h.thrown
+  pub fits_in : (gr : Group) (j q : ℕ) (h : Frame) (fs : List Frame) → h.at ≡ InGroup gr j q → Pairs.Standing p k ms g r h fs → Unwinding.Fits p k ms g r gr h.thrown
   fits_in gr j q h fs e st = subst (λ a. Pairs.FitsAt (Unwinding.Fits p k ms g r) a h.thrown) e st.fits
 
   no_waits : (m : ℕ) (gr : Group) (j q : ℕ) (a : ProgramPoint) (hs : List Rattle.cil_semantics.specs.declared.state.Handling.Handling) → a ≡ InGroup gr j q → hs ≡ [] → Waits (plan_at k p m) (mk m) (length (Rattle.cil_semantics.specs.Unwind.body_of p m).regions) a hs []
@@ -75,8 +76,8 @@ module _ (p : Program) (k : Contracts) (ms : List MethodDesc) (g : AddedNumbers)
       → To (failure_cost k p + ending (length fs)) (check p k g (clause_failure p k p' g r.types r.depths h fs x o.user) o.holds (record h { local = with_stack h.local o.rest } ∷ fs) w (λ v. piece_over p k c gr j (with_local (with_stack h.local o.rest) h) fs v)) (from_here p k p' g r.types r.depths (mk h.method) h ex b' fs' w ss [])
   condition_ends c gr j q x h ex b' fs fs' w ss o z ch mk_so =
       Unwinding.reach_by p k ms g r (failure_cost k p) (ending (length fs)) _ _ _ ch.comes
-      (Checking.checks_so p k ms g r (ending (length fs)) w.depth fl (Failing.old_sequel p k ms g r c gr j h l fs) (Failing.new_sequel p k ms g r h fs' b' l ch.after ch.seam ((mk h.method).behind gr j)) (record h { local = l } ∷ fs) fs'
-      (record { passes_so = passes; throws_so = throws; makes_so = mk_so; stops_so = λ v ss2 bes. Arriving.stuck_both p k ms g r (ending (length fs)) v ss2 bes }) o.holds w ss z.alike refl)
+      (Checking.checks_so p k ms g r (ending (length fs)) w.depth w.heap fl (Failing.old_sequel p k ms g r c gr j h l fs) (Failing.new_sequel p k ms g r h fs' b' l ch.after ch.seam ((mk h.method).behind gr j)) (record h { local = l } ∷ fs) fs'
+      (record { passes_so = passes; throws_so = throws; makes_so = mk_so; stops_so = λ v ss2 bes. Arriving.stuck_both p k ms g r (ending (length fs)) v ss2 bes }) o.holds w ss z.alike refl refl)
     where
       l : LocalState
       l = with_stack h.local o.rest
@@ -84,8 +85,8 @@ module _ (p : Program) (k : Contracts) (ms : List MethodDesc) (g : AddedNumbers)
       fl : Failure
       fl = clause_failure p k p' g r.types r.depths h fs x o.user
 
-      passes : (v : World) (ss2 : List Statics) → IsBeside v ss2 → v.depth ≡ w.depth → To (ending (length fs)) (piece_over p k c gr j (with_local l h) fs v) (Running (record { frames = Unwinding.tw p k ms g r h l ch.after ((mk h.method).behind gr j) [] b' ∷ fs'; world = beside ss2 v }))
-      passes v ss2 bes e =
+      passes : (v : World) (ss2 : List Statics) → IsBeside v ss2 → v.depth ≡ w.depth → v.heap ≡ w.heap → To (ending (length fs)) (piece_over p k c gr j (with_local l h) fs v) (Running (record { frames = Unwinding.tw p k ms g r h l ch.after ((mk h.method).behind gr j) [] b' ∷ fs'; world = beside ss2 v }))
+      passes v ss2 bes e same =
           let deep : v.depth ≤ suc k.settings.guard = subst (λ d. d ≤ suc k.settings.guard) (sym e) z.deep in
           let some : 0 < v.depth = omega (arith, e, z.count) in
           Returning.piece_is_over p k ms g r c gr j x h l ch.after b' fs fs' v ss2 (not_inline c gr j x z.piece) z.stays (fits_in gr j q h fs z.at z.stands) z.piece
@@ -99,7 +100,7 @@ module _ (p : Program) (k : Contracts) (ms : List MethodDesc) (g : AddedNumbers)
             fine_back = z.fine_back;
             deep = omega (arith, deep);
             count = omega (arith, e, z.count);
-            tries = z.tries (with_stack l []);
+            heap = subst (WellFormedObjects (Pairs.bounds p k ms g r)) (sym same) z.heap;
           }) bes deep some
 
       throws : (v : World) (ss2 : List Statics) (y : ℕ) → IsBeside v ss2 → v.depth ≡ w.depth → To (ending (length fs)) (unwind p k false (record h { local = l } ∷ fs) v y) (unwind p' no_contracts false (Unwinding.tw p k ms g r h l ch.after ch.seam [] b' ∷ fs') (beside ss2 v) y)

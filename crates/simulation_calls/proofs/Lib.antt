@@ -1,5 +1,4 @@
-pub mod OutsideLaws
 pub mod CheckLaws
 pub mod RetLaws
 pub mod ClauseLaws
-pub mod CallLaws
+pub mod InlineLaws

@@ -63,13 +63,13 @@ module _ (p : Program) (k : Contracts) (ms : List MethodDesc) (g : AddedNumbers)
   with_result v l = record l { result = v }
 
   -- at once: in the lead-in, and without contracts
-  at_once : (f f' : Frame) (fs fs' : List Frame) (w : World) (ss : List Statics) (z : Rets.Ret p k ms g r f f' fs fs' w ss) (v : Option Value) → To (3 * cst + lay (length fs)) (return_to p k (with_local (record f.local { result = v }) f) fs w) (return_to p' no_contracts (with_local (record f'.local { result = v }) f') fs' (beside ss w))
+  at_once : (f f' : Frame) (fs fs' : List Frame) (w : World) (ss : List Statics) (z : Rets.Ret p k ms g r f f' fs fs' w ss) (v : Option Value) → To (cst + lay (suc (suc (length fs)))) (return_to p k (with_local (record f.local { result = v }) f) fs w) (return_to p' no_contracts (with_local (record f'.local { result = v }) f') fs' (beside ss w))
   unfolding return_to
   at_once f f' fs fs' w ss z v =
       let t = z.top in
       let a : f'.local.args ≡ f.local.args = ap (λ (y : Frame). y.local.args) (t.pair).same in
-      subst (λ cs. To (3 * cst + lay (length fs)) (return_with p k f.continuation f.local.args v fs w) (return_with p' no_contracts f'.continuation cs v fs' (beside ss w))) (sym a)
-      (Returning.returns_down p k ms g r f.continuation f'.continuation f.local.args v fs fs' w ss t.under t.others z.fine_back t.alike t.deep z.outside (z.tries (record f.local { result = v }) w ss t.alike))
+      subst (λ cs. To (cst + lay (suc (suc (length fs)))) (return_with p k f.continuation f.local.args v fs w) (return_with p' no_contracts f'.continuation cs v fs' (beside ss w))) (sym a)
+      (Returning.returns_down p k ms g r f.continuation f'.continuation f.local.args v fs fs' w ss t.under t.others z.fine_back z.heap t.alike t.deep z.outside)
 
   second_returns : (f f' : Frame) (fs fs' : List Frame) (w : World) (ss : List Statics) (z : Rets.Ret p k ms g r f f' fs fs' w ss) → returns p' no_contracts f' fs' (beside ss w) ≡ if_there (returned p f f.local.stack) (beside ss w) (λ v. return_to p' no_contracts (with_local (record f'.local { result = v }) f') fs' (beside ss w))
   second_returns f f' fs fs' w ss z =
@@ -82,21 +82,21 @@ module _ (p : Program) (k : Contracts) (ms : List MethodDesc) (g : AddedNumbers)
   comes_at_once : Option Plan → ProgramPoint → Type 0
   comes_at_once o at = (f : Frame) (l : LocalState) (fs : List Frame) (w : World) → return_from p k o at (with_local l f) fs w ≡ return_to p k (with_local l f) fs w
 
-  pub rets_at_once : (o : Option Plan) (f f' : Frame) (fs fs' : List Frame) (w : World) (ss : List Statics) (z : Rets.Ret p k ms g r f f' fs fs' w ss) → plan_at k p f.method ≡ o → ((l : LocalState) → return_from p k o f.at (with_local l f) fs w ≡ return_to p k (with_local l f) fs w) → To (3 * cst + lay (length fs)) (returns p k f fs w) (returns p' no_contracts f' fs' (beside ss w))
+  pub rets_at_once : (o : Option Plan) (f f' : Frame) (fs fs' : List Frame) (w : World) (ss : List Statics) (z : Rets.Ret p k ms g r f f' fs fs' w ss) → plan_at k p f.method ≡ o → ((l : LocalState) → return_from p k o f.at (with_local l f) fs w ≡ return_to p k (with_local l f) fs w) → To (cst + lay (suc (suc (length fs)))) (returns p k f fs w) (returns p' no_contracts f' fs' (beside ss w))
   rets_at_once o f f' fs fs' w ss z e once =
-      subst (λ y. To (3 * cst + lay (length fs)) (returns p k f fs w) y) (sym (second_returns f f' fs fs' w ss z))
-      (subst (λ y. To (3 * cst + lay (length fs)) (if_there (returned p f f.local.stack) w (λ v. return_from p k y f.at (with_local (record f.local { result = v }) f) fs w)) (if_there (returned p f f.local.stack) (beside ss w) (λ v. return_to p' no_contracts (with_local (record f'.local { result = v }) f') fs' (beside ss w)))) (sym e)
+      subst (λ y. To (cst + lay (suc (suc (length fs)))) (returns p k f fs w) y) (sym (second_returns f f' fs fs' w ss z))
+      (subst (λ y. To (cst + lay (suc (suc (length fs)))) (if_there (returned p f f.local.stack) w (λ v. return_from p k y f.at (with_local (record f.local { result = v }) f) fs w)) (if_there (returned p f f.local.stack) (beside ss w) (λ v. return_to p' no_contracts (with_local (record f'.local { result = v }) f') fs' (beside ss w)))) (sym e)
       (by_value (returned p f f.local.stack)))
     where
-      by_value : (v : Option (Option Value)) → To (3 * cst + lay (length fs)) (if_there v w (λ v1. return_from p k o f.at (with_local (record f.local { result = v1 }) f) fs w)) (if_there v (beside ss w) (λ v1. return_to p' no_contracts (with_local (record f'.local { result = v1 }) f') fs' (beside ss w)))
+      by_value : (v : Option (Option Value)) → To (cst + lay (suc (suc (length fs)))) (if_there v w (λ v1. return_from p k o f.at (with_local (record f.local { result = v1 }) f) fs w)) (if_there v (beside ss w) (λ v1. return_to p' no_contracts (with_local (record f'.local { result = v1 }) f') fs' (beside ss w)))
       by_value None = Arriving.stuck_both p k ms g r _ w ss ((z.top).alike)
-      by_value (Some v) = subst (λ y. To (3 * cst + lay (length fs)) y (return_to p' no_contracts (with_local (record f'.local { result = v }) f') fs' (beside ss w))) (sym (once (record f.local { result = v }))) (at_once f f' fs fs' w ss z v)
+      by_value (Some v) = subst (λ y. To (cst + lay (suc (suc (length fs)))) y (return_to p' no_contracts (with_local (record f'.local { result = v }) f') fs' (beside ss w))) (sym (once (record f.local { result = v }))) (at_once f f' fs fs' w ss z v)
 
   -- in the rest of a body with contracts the value is kept and the groups at exit come
   pub rets_lifted : (c : Plan) (q : ℕ) (i : Instr) (f f' : Frame) (fs fs' : List Frame) (w : World) (ss : List Statics) (z : Rets.Ret p k ms g r f f' fs fs' w ss) → plan_at k p f.method ≡ Some c → f.at ≡ Rest q → Rattle.splice_facts.specs.Layout.fetch p k g (Some c) f.method f.at ≡ Some i → class_of i.op ≡ class.Return → f.thrown ≡ None → Rattle.splice_facts.specs.Spliced.has_exit p k p' g r.types r.depths c ≡ true → Rattle.splice_facts.specs.Spliced.Current p k p' g r.types r.depths f.method f.at f'.handling → ((v : Option Value) → returned p f f.local.stack ≡ Some v → length f.local.stack ≡ length (Rattle.splice_facts.specs.Input.top_of v))
-      → To (4 * cst + lay (suc (length fs))) (returns p k f fs w) (from_here p k p' g r.types r.depths (mk f.method) f ((z.top).pair.extra) f'.continuation fs' w ss f'.handling)
+      → To (5 * cst + lay (suc (suc (length fs)))) (returns p k f fs w) (from_here p k p' g r.types r.depths (mk f.method) f ((z.top).pair.extra) f'.continuation fs' w ss f'.handling)
   rets_lifted c q i f f' fs fs' w ss z e at there is bare exits current just =
-      subst (λ y. To (4 * cst + lay (suc (length fs))) (if_there (returned p f f.local.stack) w (λ v. return_from p k y f.at (with_local (record f.local { result = v }) f) fs w)) from) (sym e) (by_value (returned p f f.local.stack) refl)
+      subst (λ y. To (5 * cst + lay (suc (suc (length fs)))) (if_there (returned p f f.local.stack) w (λ v. return_from p k y f.at (with_local (record f.local { result = v }) f) fs w)) from) (sym e) (by_value (returned p f f.local.stack) refl)
     where
       from : Next
       from = from_here p k p' g r.types r.depths (mk f.method) f ((z.top).pair.extra) f'.continuation fs' w ss f'.handling
@@ -107,27 +107,27 @@ module _ (p : Program) (k : Contracts) (ms : List MethodDesc) (g : AddedNumbers)
       scene : Paired p k p' g r.types r.depths (mk f.method) f fs fs' w ((z.top).pair.extra) ss
       scene = record { keeps = (z.top).pair.keeps; beside = (z.top).alike; numbers = as_many p k ms g r f.continuation f'.continuation fs fs' (z.top).under; deep = (z.top).deep }
 
-      lifted : (v : Option Value) → returned p f f.local.stack ≡ Some v → To (4 * cst + lay (suc (length fs))) (begin_group p c group.Exit (with_local (record f.local { result = v }) f) fs w (begin_invariants p k c (with_local (record f.local { result = v }) f) fs w)) from
+      lifted : (v : Option Value) → returned p f f.local.stack ≡ Some v → To (5 * cst + lay (suc (suc (length fs)))) (begin_group p c group.Exit (with_local (record f.local { result = v }) f) fs w (begin_invariants p k c (with_local (record f.local { result = v }) f) fs w)) from
       lifted v s =
           let l : LocalState = record f.local { result = v } in
           let a = (groups_of p k ms g r f.method c e ((z.top).stands).old).lifts f fs fs' w ((z.top).pair.extra) ss f'.continuation f'.handling q i v refl exits at here there is scene current s (just v s) in
           let over = begin_invariants p k c (with_local (with_stack l []) f) fs w in
-          let b = group_begins p k ms g r c group.Exit f (with_stack l []) a.extra f'.continuation fs fs' w a.statics over e ((z.top).stands).old (λ d. cc d) refl (subst (λ o. Unwinding.Fits p k ms g r group.Exit o) (sym bare) tt) a.keeps a.beside (as_many p k ms g r f.continuation f'.continuation fs fs' (z.top).under) (z.top).deep (z.top).under (3 * cst + lay (suc (length fs))) (omega arith)
-          (λ a1. Unwinding.reach_within p k ms g r (cst + (2 * cst + lay (suc (length fs)))) _ _ _ (omega arith)
-          (Unwinding.reach_by p k ms g r cst (2 * cst + lay (suc (length fs))) _ _ _ a1.comes
-          (subst (λ y. To (2 * cst + lay (suc (length fs))) over (Spliced.stands p k p' g r.types r.depths f (with_stack l []) a1.extra y f'.continuation fs' w a1.statics)) (sym (groups_of p k ms g r f.method c e ((z.top).stands).old).then_invariants)
+          let b = group_begins p k ms g r c group.Exit f (with_stack l []) a.extra f'.continuation fs fs' w a.statics over e ((z.top).stands).old (λ d. cc d) refl (subst (λ o. Unwinding.Fits p k ms g r group.Exit o) (sym bare) tt) a.keeps a.beside (as_many p k ms g r f.continuation f'.continuation fs fs' (z.top).under) (z.top).deep (z.top).under (4 * cst + lay (suc (suc (length fs)))) (omega arith)
+          (λ a1. Unwinding.reach_within p k ms g r (cst + (3 * cst + lay (suc (suc (length fs))))) _ _ _ (omega arith)
+          (Unwinding.reach_by p k ms g r cst (3 * cst + lay (suc (suc (length fs)))) _ _ _ a1.comes
+          (subst (λ y. To (3 * cst + lay (suc (suc (length fs)))) over (Spliced.stands p k p' g r.types r.depths f (with_stack l []) a1.extra y f'.continuation fs' w a1.statics)) (sym (groups_of p k ms g r f.method c e ((z.top).stands).old).then_invariants)
           (Returning.invariants_begin p k ms g r c f (with_stack l []) a1.extra f'.continuation fs fs' w a1.statics (exits, Rattle.splice_facts.proofs.StoreLaws.returned_stays p f f.local.stack v s) refl bare a1.beside
-          (record { plan = e; old = ((z.top).stands).old; keeps = a1.keeps; under = (z.top).under; others = (z.top).others; own = ((z.top).stands).initializes; fine_back = z.fine_back; deep = (z.top).deep; count = z.outside; tries = z.tries (with_stack l []) }))))) in
-          Unwinding.reach_within p k ms g r (cst + (3 * cst + lay (suc (length fs)))) _ _ _ (omega arith)
-          (Unwinding.reach_by p k ms g r cst (3 * cst + lay (suc (length fs))) _ _ _ a.comes
-          (subst (λ y. To (3 * cst + lay (suc (length fs))) y (Spliced.stands p k p' g r.types r.depths f (with_stack l []) a.extra ((mk f.method).door group.Exit) f'.continuation fs' w a.statics))
+          (record { plan = e; old = ((z.top).stands).old; keeps = a1.keeps; under = (z.top).under; others = (z.top).others; own = ((z.top).stands).initializes; fine_back = z.fine_back; deep = (z.top).deep; count = z.outside; heap = z.heap }))))) in
+          Unwinding.reach_within p k ms g r (cst + (4 * cst + lay (suc (suc (length fs))))) _ _ _ (omega arith)
+          (Unwinding.reach_by p k ms g r cst (4 * cst + lay (suc (suc (length fs)))) _ _ _ a.comes
+          (subst (λ y. To (4 * cst + lay (suc (suc (length fs)))) y (Spliced.stands p k p' g r.types r.depths f (with_stack l []) a.extra ((mk f.method).door group.Exit) f'.continuation fs' w a.statics))
           (Returning.group_stack p k ms g r c group.Exit f l fs w (begin_invariants p k c (with_local l f) fs w) over (Returning.group_stack p k ms g r c group.Invariant f l fs w (return_to p k (with_local l f) fs w) (return_to p k (with_local (with_stack l []) f) fs w) (Returning.stack_gone p k ms g r f l fs w))) b))
 
-      by_value : (v : Option (Option Value)) → returned p f f.local.stack ≡ v → To (4 * cst + lay (suc (length fs))) (if_there v w (λ v1. return_from p k (Some c) f.at (with_local (record f.local { result = v1 }) f) fs w)) from
+      by_value : (v : Option (Option Value)) → returned p f f.local.stack ≡ v → To (5 * cst + lay (suc (suc (length fs)))) (if_there v w (λ v1. return_from p k (Some c) f.at (with_local (record f.local { result = v1 }) f) fs w)) from
       by_value None s =
-          Unwinding.reach_within p k ms g r (cst + (3 * cst + lay (suc (length fs)))) _ _ _ (omega arith)
-          (Unwinding.reach_by p k ms g r cst (3 * cst + lay (suc (length fs))) _ _ _ ((groups_of p k ms g r f.method c e ((z.top).stands).old).lifts_stuck f fs fs' w ((z.top).pair.extra) ss f'.continuation f'.handling q i refl exits at here there is scene current s) (Arriving.stuck_both p k ms g r _ w ss (z.top).alike))
-      by_value (Some v) s = subst (λ y. To (4 * cst + lay (suc (length fs))) (return_from p k (Some c) y (with_local (record f.local { result = v }) f) fs w) from) (sym at) (lifted v s)
+          Unwinding.reach_within p k ms g r (cst + (4 * cst + lay (suc (suc (length fs))))) _ _ _ (omega arith)
+          (Unwinding.reach_by p k ms g r cst (4 * cst + lay (suc (suc (length fs)))) _ _ _ ((groups_of p k ms g r f.method c e ((z.top).stands).old).lifts_stuck f fs fs' w ((z.top).pair.extra) ss f'.continuation f'.handling q i refl exits at here there is scene current s) (Arriving.stuck_both p k ms g r _ w ss (z.top).alike))
+      by_value (Some v) s = subst (λ y. To (5 * cst + lay (suc (suc (length fs)))) (return_from p k (Some c) y (with_local (record f.local { result = v }) f) fs w) from) (sym at) (lifted v s)
 
   -- where nothing is checked at exit, `ret` returns at once in the rest too
   no_pieces : (xs : List Piece) → Rattle.splice_facts.specs.Spliced.has_any p k p' g r.types r.depths xs ≡ false → xs ≡ []
@@ -158,5 +158,5 @@ module _ (p : Program) (k : Contracts) (ms : List MethodDesc) (g : AddedNumbers)
   without_exit (Some c) (InGroup gr j q) f fs w n l = absurd n
   without_exit (Some c) (Rest q) f fs w n l = returns_bare c q f l fs w n
 
-  pub rets_bare : (f f' : Frame) (fs fs' : List Frame) (w : World) (ss : List Statics) → Rets.Ret p k ms g r f f' fs fs' w ss → Rets.NoExit p k ms g r (plan_at k p f.method) f.at → To (3 * cst + lay (length fs)) (returns p k f fs w) (returns p' no_contracts f' fs' (beside ss w))
+  pub rets_bare : (f f' : Frame) (fs fs' : List Frame) (w : World) (ss : List Statics) → Rets.Ret p k ms g r f f' fs fs' w ss → Rets.NoExit p k ms g r (plan_at k p f.method) f.at → To (cst + lay (suc (suc (length fs)))) (returns p k f fs w) (returns p' no_contracts f' fs' (beside ss w))
   rets_bare f f' fs fs' w ss z n = rets_at_once (plan_at k p f.method) f f' fs fs' w ss z refl (without_exit (plan_at k p f.method) f.at f fs w n)

@@ -10,6 +10,7 @@ use Rattle.cil_model.specs.declared.program.MethodDesc.{MethodDesc}
 use Rattle.cil_model.specs.NoContracts.{no_contracts}
 use Rattle.cil_semantics.specs.declared.state.Cell.{Cell}
 use Rattle.cil_semantics.specs.declared.state.Local.{Local}
+use Rattle.cil_semantics.specs.declared.state.Object.{Object}
 use Rattle.cil_semantics.specs.declared.state.World.{World}
 use Rattle.cil_semantics.specs.declared.state.Statics.{Statics}
 use Rattle.cil_semantics.specs.declared.state.ProgramPoint.TheVariants.{InGroup}
@@ -23,11 +24,11 @@ use Rattle.cil_semantics.specs.Returns.{piece_over}
 use Rattle.cil_semantics.specs.Calls.{make, pushes_new}
 use Rattle.cil_semantics.specs.Checks.{AddedNumbers, Failure, Condition, Sequel, check, goes_on_from, throw_exception, made_type, failing}
 use Rattle.splice_facts.specs.Grown.{beside}
-use Rattle.splice_facts.specs.WellFormed.{WellFormedContinuation}
+use Rattle.splice_facts.specs.WellFormed.{WellFormedContinuation, WellFormedObjects}
 use Rattle.splice_facts.specs.Layout.{Keeps, IsHere}
 use Rattle.splice_facts.specs.Spliced.{Checked, StaysIn, clause_failure, from_here, twin, cost, failure_cost}
 use Rattle.splice_facts.specs.Related.{Rewritten, written, bounds, ReachesIn, per_frame, Under, Standing, AllStand, count_groups}
-use Rattle.simulation_steps.specs.Steps.{BesideIn, TriesOn}
+use Rattle.simulation_steps.specs.Steps.{BesideIn}
 
 module _ (p : Program) (k : Contracts) (ms : List MethodDesc) (g : AddedNumbers) (r : Rewritten p k ms g) where
   -- where a failed Requires<E> makes its exception, both runs make it alike
@@ -36,9 +37,9 @@ module _ (p : Program) (k : Contracts) (ms : List MethodDesc) (g : AddedNumbers)
       (v : World) (ss : List Statics) (ty : Ty) (text : Value) → x.kind ≡ kind.RequiresOf → made_type x ≡ Some ty → BesideIn p k ms g r v ss → v.depth ≡ d
       → ReachesIn p k ms g r n (throw_exception p g k.settings.throwing x s ty text fs v) (throw_exception (written p k ms g r) g k.settings.throwing x t ty text fs' (beside ss v))
 
-  -- what follows a failure, in both runs, from worlds of a depth that are alike
-  pub record AlikeSequels (n d : ℕ) (x : Failure) (s t : Sequel) (fs fs' : List Frame) : Type 0 where
-    pub passes_so : (v : World) (ss : List Statics) → BesideIn p k ms g r v ss → v.depth ≡ d → ReachesIn p k ms g r n (s.passes v) (t.passes (beside ss v))
+  -- what follows a failure, in both runs, from worlds of a depth that are alike; where it is passed over, the heap is as it was
+  pub record AlikeSequels (n d : ℕ) (heap : List Object) (x : Failure) (s t : Sequel) (fs fs' : List Frame) : Type 0 where
+    pub passes_so : (v : World) (ss : List Statics) → BesideIn p k ms g r v ss → v.depth ≡ d → v.heap ≡ heap → ReachesIn p k ms g r n (s.passes v) (t.passes (beside ss v))
     pub throws_so : (v : World) (ss : List Statics) (y : ℕ) → BesideIn p k ms g r v ss → v.depth ≡ d → ReachesIn p k ms g r n (s.throws v y) (t.throws (beside ss v) y)
     pub makes_so : MakesAlike x s t fs fs' n d
     pub stops_so : (v : World) (ss : List Statics) → BesideIn p k ms g r v ss → ReachesIn p k ms g r n (s.stops v) (t.stops (beside ss v))
@@ -46,7 +47,7 @@ module _ (p : Program) (k : Contracts) (ms : List MethodDesc) (g : AddedNumbers)
   -- A failure is reported outside alike, by whichever frames, and what follows its reply is alike.
   abbrev pub FailsAlike : Type 0
   FailsAlike =
-      (n d : ℕ) (x : Failure) (s t : Sequel) (fs fs' : List Frame) → AlikeSequels n d x s t fs fs' → (w : World) (ss : List Statics) → BesideIn p k ms g r w ss → w.depth ≡ d
+      (n d : ℕ) (heap : List Object) (x : Failure) (s t : Sequel) (fs fs' : List Frame) → AlikeSequels n d heap x s t fs fs' → (w : World) (ss : List Statics) → BesideIn p k ms g r w ss → w.depth ≡ d → w.heap ≡ heap
       → ReachesIn p k ms g r n (failing p g k.settings.throwing x s fs w) (failing (written p k ms g r) g k.settings.throwing x t fs' (beside ss w))
 
   -- a frame in a piece, with what its group needs when it is over
@@ -65,7 +66,7 @@ module _ (p : Program) (k : Contracts) (ms : List MethodDesc) (g : AddedNumbers)
     pub alike : BesideIn p k ms g r w ss
     pub deep : w.depth ≤ suc k.settings.guard
     pub count : w.depth ≡ 1 + count_groups fs
-    pub tries : (l : Local) (v : World) (ss2 : List Statics) → BesideIn p k ms g r v ss2 → TriesOn p k ms g r h.continuation l.args l.result fs fs' v ss2 (cost k p + per_frame p k ms g r (length fs))
+    pub heap : WellFormedObjects (bounds p k ms g r) w.heap
 
   -- the frame's twin at a new place, with no handler that runs
   abbrev pub twin_at : Frame → Local → List Cell → ℕ → Continuation → Frame
@@ -90,7 +91,7 @@ module _ (p : Program) (k : Contracts) (ms : List MethodDesc) (g : AddedNumbers)
 
   -- how many steps follow a condition, in a frame over n others
   abbrev pub ending : ℕ → ℕ
-  ending n = 3 * cost k p + per_frame p k ms g r (suc n)
+  ending n = 4 * cost k p + per_frame p k ms g r (suc (suc n))
 
   -- The condition that ends a clause is there: it holds and the piece is over in both runs, or it fails in both. The exception of Requires<E> is a premise.
   abbrev pub ClausesEndAlike : Type 0

@@ -1,4 +1,3 @@
-pub mod Outside
 pub mod Failures
-pub mod Calls
 pub mod Rets
+pub mod Inline

@@ -6,7 +6,6 @@ use Rattle.cil_model.specs.declared.contract.Contracts.{Contracts}
 use Rattle.cil_model.specs.declared.program.Program.{Program}
 use Rattle.cil_model.specs.declared.program.MethodDesc.{MethodDesc}
 use Rattle.cil_model.specs.NoContracts.{no_contracts}
-use Rattle.cil_semantics.specs.declared.state.Local.{Local}
 use Rattle.cil_semantics.specs.declared.state.World.{World}
 use Rattle.cil_semantics.specs.declared.state.Statics.{Statics}
 use Rattle.cil_semantics.specs.declared.state.ProgramPoint.TheVariants.{LeadIn, InGroup, Rest}
@@ -19,12 +18,12 @@ use Rattle.cil_semantics.specs.Unwind.{plan_at}
 use Rattle.cil_semantics.specs.Returns.{returned, returns}
 use Rattle.cil_semantics.specs.Checks.{AddedNumbers}
 use Rattle.splice_facts.specs.Grown.{beside}
-use Rattle.splice_facts.specs.WellFormed.{WellFormedContinuation}
+use Rattle.splice_facts.specs.WellFormed.{WellFormedContinuation, WellFormedObjects}
 use Rattle.splice_facts.specs.Input.{top_of}
 use Rattle.splice_facts.specs.Layout.{fetch}
 use Rattle.splice_facts.specs.Spliced.{has_exit, Current, from_here, cost}
 use Rattle.splice_facts.specs.Related.{Rewritten, written, bounds, ReachesIn, per_frame, TopPair, count_groups}
-use Rattle.simulation_steps.specs.Steps.{BesideIn, TriesOn}
+use Rattle.simulation_steps.specs.Steps.{BesideIn}
 
 module _ (p : Program) (k : Contracts) (ms : List MethodDesc) (g : AddedNumbers) (r : Rewritten p k ms g) where
   -- a frame outside of groups that returns
@@ -32,7 +31,7 @@ module _ (p : Program) (k : Contracts) (ms : List MethodDesc) (g : AddedNumbers)
     pub top : TopPair p k ms g r f f' fs fs' w ss
     pub outside : w.depth ≡ count_groups fs
     pub fine_back : WellFormedContinuation (bounds p k ms g r) f.continuation
-    pub tries : (l : Local) (v : World) (ss2 : List Statics) → BesideIn p k ms g r v ss2 → TriesOn p k ms g r f.continuation l.args l.result fs fs' v ss2 (cost k p + per_frame p k ms g r (length fs))
+    pub heap : WellFormedObjects (bounds p k ms g r) w.heap
 
   -- no group comes at exit: without contracts, in the lead-in, and where nothing is checked at exit
   abbrev pub NoExit : Option Plan → ProgramPoint → Type 0
@@ -45,11 +44,11 @@ module _ (p : Program) (k : Contracts) (ms : List MethodDesc) (g : AddedNumbers)
   abbrev pub RetsAtOnce : Type 0
   RetsAtOnce =
       (f f' : Frame) (fs fs' : List Frame) (w : World) (ss : List Statics) → Ret f f' fs fs' w ss → NoExit (plan_at k p f.method) f.at
-      → ReachesIn p k ms g r (3 * cost k p + per_frame p k ms g r (length fs)) (returns p k f fs w) (returns (written p k ms g r) no_contracts f' fs' (beside ss w))
+      → ReachesIn p k ms g r (cost k p + per_frame p k ms g r (suc (suc (length fs)))) (returns p k f fs w) (returns (written p k ms g r) no_contracts f' fs' (beside ss w))
 
   -- In the rest of a body whose exit is checked, the value is kept, and the postconditions and invariants come in both runs.
   abbrev pub RetsLifted : Type 0
   RetsLifted =
       (c : Plan) (q : ℕ) (i : Instr) (f f' : Frame) (fs fs' : List Frame) (w : World) (ss : List Statics) (z : Ret f f' fs fs' w ss) → plan_at k p f.method ≡ Some c → f.at ≡ Rest q → fetch p k g (Some c) f.method f.at ≡ Some i → class_of i.op ≡ class.Return → f.thrown ≡ None → has_exit p k (written p k ms g r) g r.types r.depths c ≡ true
       → Current p k (written p k ms g r) g r.types r.depths f.method f.at f'.handling → ((v : Option Value) → returned p f f.local.stack ≡ Some v → length f.local.stack ≡ length (top_of v))
-      → ReachesIn p k ms g r (4 * cost k p + per_frame p k ms g r (suc (length fs))) (returns p k f fs w) (from_here p k (written p k ms g r) g r.types r.depths (r.marks f.method) f ((z.top).pair.extra) f'.continuation fs' w ss f'.handling)
+      → ReachesIn p k ms g r (5 * cost k p + per_frame p k ms g r (suc (suc (length fs)))) (returns p k f fs w) (from_here p k (written p k ms g r) g r.types r.depths (r.marks f.method) f ((z.top).pair.extra) f'.continuation fs' w ss f'.handling)

@@ -1,5 +1,5 @@
-//! Calls, returns and the ends of clauses, in the run of an input with its contracts and in the plain
-//! run of the written program.
+//! Returns and the ends of clauses, in the run of an input with its contracts and in the plain run of
+//! the written program.
 #![tactic(auto)]
 
 ghost use Rattle.std.specs.Prelude.{List};
@@ -8,17 +8,9 @@ ghost use Rattle.cil_model.specs.declared.program.MethodDesc.{MethodDesc};
 ghost use Rattle.cil_model.specs.declared.program.Program.{Program};
 ghost use Rattle.cil_semantics.specs.Checks.{AddedNumbers};
 ghost use Rattle.splice_facts.specs.Related.{Rewritten};
-ghost use Rattle.simulation_calls.specs.Outside.{AsksAlike};
-ghost use Rattle.simulation_calls.specs.Calls.{CallsAlike};
+ghost use Rattle.simulation_calls.specs.Inline.{CapturesAlike, RecallsAlike, ResultsAlike, ChecksHereAlike};
 ghost use Rattle.simulation_calls.specs.Rets.{RetsAtOnce, RetsLifted};
 ghost use Rattle.simulation_calls.specs.Failures.{FailsAlike, ClausesEndAlike};
-
-/// Over a written program a call outside takes and records the same in both runs, and a call of the
-/// member that a token names does the same.
-pub fn calls_go_alike()
-    ensures asking { (p : Program) (k : Contracts) (ms : List MethodDesc) (g : AddedNumbers) (r : Rewritten p k ms g) → AsksAlike p k ms g r }
-    ensures calling { (p : Program) (k : Contracts) (ms : List MethodDesc) (g : AddedNumbers) (r : Rewritten p k ms g) → CallsAlike p k ms g r }
-{}
 
 /// Over a written program `ret` returns the same at once, or comes in both runs to what is checked at
 /// exit and then returns the same.
@@ -32,4 +24,13 @@ pub fn returns_go_alike()
 pub fn clauses_go_alike()
     ensures failures { (p : Program) (k : Contracts) (ms : List MethodDesc) (g : AddedNumbers) (r : Rewritten p k ms g) → FailsAlike p k ms g r }
     ensures conditions { (p : Program) (k : Contracts) (ms : List MethodDesc) (g : AddedNumbers) (r : Rewritten p k ms g) → ClausesEndAlike p k ms g r }
+{}
+
+/// Over a written program old values are captured and recalled alike, a clause finds what is returned,
+/// and Assert and Assume are checked, or passed over, alike where they stand.
+pub fn inline_calls_go_alike()
+    ensures captures { (p : Program) (k : Contracts) (ms : List MethodDesc) (g : AddedNumbers) (r : Rewritten p k ms g) → CapturesAlike p k ms g r }
+    ensures recalls { (p : Program) (k : Contracts) (ms : List MethodDesc) (g : AddedNumbers) (r : Rewritten p k ms g) → RecallsAlike p k ms g r }
+    ensures results { (p : Program) (k : Contracts) (ms : List MethodDesc) (g : AddedNumbers) (r : Rewritten p k ms g) → ResultsAlike p k ms g r }
+    ensures checks { (p : Program) (k : Contracts) (ms : List MethodDesc) (g : AddedNumbers) (r : Rewritten p k ms g) → ChecksHereAlike p k ms g r }
 {}

@@ -3,7 +3,8 @@ use Rattle.std.proofs.Common.{◌≡◌, ℕ, suc, ◌+◌, ◌*◌, ◌<◌, �
 use Rattle.std.specs.Prelude.{option_map, option_and_then, if◌then◌else◌, IsTrue, map, find, not, ◌&&◌, ◌||◌, bytes_eq, codes, is_some}
 use Rattle.std.proofs.lemmas.List.{append-nil}
 use Rattle.cil_model.specs.declared.ty.Ty.{Ty}
-use Rattle.cil_model.specs.declared.value.Value.{Value}
+use Rattle.cil_model.specs.declared.value.Value.{Value, Ptr}
+use Rattle.cil_model.specs.declared.value.Pointer.TheVariants.{Arg}
 use Rattle.cil_model.specs.declared.contract.Contracts.{Contracts}
 use Rattle.cil_model.specs.declared.program.Program.{Program}
 use Rattle.cil_model.specs.declared.program.MethodDesc.{MethodDesc}
@@ -22,11 +23,11 @@ use Rattle.cil_semantics.specs.declared.state.ProgramPoint.TheVariants.{LeadIn, 
 use Rattle.cil_semantics.specs.declared.state.Frame.{Frame}
 use Rattle.cil_semantics.specs.State.{Next}
 use Rattle.cil_semantics.specs.declared.state.Continuation.{Continuation}
-use Rattle.cil_semantics.specs.declared.state.Continuation.TheVariants.{BeginCallee}
+use Rattle.cil_semantics.specs.declared.state.Continuation.TheVariants.{BeginCallee, PushStruct}
 use Rattle.cil_semantics.specs.declared.state.Init.TheVariants.{Begun}
 use Rattle.cil_semantics.specs.Contracted.{Plan, locals_of}
 use Rattle.cil_semantics.specs.Unwind.{body_of, plan_at, moved_to, goes_at, hasnt_begun, find_statics, set_statics, unwind}
-use Rattle.cil_semantics.specs.Frames.{if_there, static_cells, initializer, Initializer, Ready, FailedWith, ToRun, initializer_state, is_initializer, with_begun, this_type, param_types, stored_args, clause_tys, captured_tys, first_place, frame_with, begin, initializer_frame, begin_behind, is_use, begin_use, enter}
+use Rattle.cil_semantics.specs.Frames.{if_there, static_cells, initializer, Initializer, Ready, FailedWith, ToRun, initializer_state, is_initializer, with_begun, this_type, param_types, stored_args, clause_tys, captured_tys, first_place, frame_with, begin, initializer_frame, begin_behind, is_use, begin_use, enter, enter_struct}
 use Rattle.cil_semantics.specs.Checks.{AddedNumbers}
 use Rattle.splice_facts.specs.Bodies.{with_methods}
 use Rattle.splice_facts.specs.Grown.{grow, beside}
@@ -34,7 +35,7 @@ use Rattle.machine_laws.specs.Answers.{is_below}
 use Rattle.splice_facts.specs.Layout.{Marks, CanArrive}
 use Rattle.splice_facts.specs.Related.{Rewritten, HandlingPairs, Waits, FramePair, Under, count_groups}
 use Rattle.splice_facts.specs.Related as Pairs
-use Rattle.simulation.proofs.ProgramLaws.{fun_ext, storage_same, default_cells_same, new_cell_same}
+use Rattle.simulation.proofs.ProgramLaws.{fun_ext, storage_same, default_cell_same, default_cells_same, new_cell_same}
 use Rattle.splice_facts.proofs.ComesLaws.{no_plan, arrives_plain}
 use Rattle.simulation.proofs.ArriveLaws as Arriving
 use Rattle.simulation.proofs.UnwindLaws as Unwinding
@@ -232,7 +233,7 @@ module _ (p : Program) (k : Contracts) (ms : List MethodDesc) (g : AddedNumbers)
 
   -- a frame begins, behind its type's initializer
   pub begins_by : (i : Initializer) (t : Ty) (h h' : Frame) (fs fs' : List Frame) (w : World) (ss : List Statics) → FramePair p k ms g r 0 h fs h' → h.at ≡ first_place (plan_at k p h.method) → Pairs.Standing p k ms g r h fs → below h.continuation h'.continuation fs fs' → hasnt_begun h.continuation ≡ false → hasnt_begun h'.continuation ≡ false → valid fs → IsTrue (is_below r.types t) → IsBeside w ss → w.depth ≤ suc k.settings.guard → w.depth ≡ count_groups fs → ((m : ℕ) → i ≡ ToRun m → m < r.methods)
-      → To (2 * cst + lay (suc (suc (length fs)))) (begin_behind p k i t h fs w) (begin_behind p' no_contracts i t h' fs' (beside ss w))
+      → To (cst + lay (suc (suc (length fs)))) (begin_behind p k i t h fs w) (begin_behind p' no_contracts i t h' fs' (beside ss w))
   begins_by Ready t h h' fs fs' w ss pair first st under nb nb' ok a bes deep count own = Unwinding.reach_within p k ms g r (cst + lay (suc (length fs))) _ _ _ (omega arith) (begins_so h h' fs fs' w ss pair first st under bes deep)
   begins_by (FailedWith x) t h h' fs fs' w ss pair first st under nb nb' ok a bes deep count own =
       let d = unwinds p k ms g r h.continuation h'.continuation fs fs' under ok w ss x bes count deep in
@@ -255,26 +256,58 @@ module _ (p : Program) (k : Contracts) (ms : List MethodDesc) (g : AddedNumbers)
       some_inj x y e = cc e
 
   pub uses_begin : (t : Ty) (h h' : Frame) (fs fs' : List Frame) (w : World) (ss : List Statics) → FramePair p k ms g r 0 h fs h' → h.at ≡ first_place (plan_at k p h.method) → Pairs.Standing p k ms g r h fs → below h.continuation h'.continuation fs fs' → hasnt_begun h.continuation ≡ false → hasnt_begun h'.continuation ≡ false → valid fs → IsTrue (is_below r.types t) → IsBeside w ss → w.depth ≤ suc k.settings.guard → w.depth ≡ count_groups fs
-      → To (2 * cst + lay (suc (suc (length fs)))) (begin_use p k t h fs w) (begin_use p' no_contracts t h' fs' (beside ss w))
+      → To (cst + lay (suc (suc (length fs)))) (begin_use p k t h fs w) (begin_use p' no_contracts t h' fs' (beside ss w))
   uses_begin t h h' fs fs' w ss pair first st under nb nb' ok a bes deep count =
       let same : h'.method ≡ h.method = ap (λ (z : Frame). z.method) pair.same in
-      subst (λ b. To (2 * cst + lay (suc (suc (length fs)))) (begin_use p k t h fs w) (if b then begin_behind p' no_contracts (initializer p' (beside ss w) t) t h' fs' (beside ss w) else begin p' no_contracts h' fs' (beside ss w))) (sym (ap (λ m. is_use (method_of p' m)) same ∙ use_same h.method))
-      (subst (λ i. To (2 * cst + lay (suc (suc (length fs)))) (begin_use p k t h fs w) (if is_use (method_of p h.method) then begin_behind p' no_contracts i t h' fs' (beside ss w) else begin p' no_contracts h' fs' (beside ss w))) (sym (initializer_same w ss t a bes))
+      subst (λ b. To (cst + lay (suc (suc (length fs)))) (begin_use p k t h fs w) (if b then begin_behind p' no_contracts (initializer p' (beside ss w) t) t h' fs' (beside ss w) else begin p' no_contracts h' fs' (beside ss w))) (sym (ap (λ m. is_use (method_of p' m)) same ∙ use_same h.method))
+      (subst (λ i. To (cst + lay (suc (suc (length fs)))) (begin_use p k t h fs w) (if is_use (method_of p h.method) then begin_behind p' no_contracts i t h' fs' (beside ss w) else begin p' no_contracts h' fs' (beside ss w))) (sym (initializer_same w ss t a bes))
       (by_use (is_use (method_of p h.method))))
     where
-      by_use : (b : Bool) → To (2 * cst + lay (suc (suc (length fs)))) (if b then begin_behind p k (initializer p w t) t h fs w else begin p k h fs w) (if b then begin_behind p' no_contracts (initializer p w t) t h' fs' (beside ss w) else begin p' no_contracts h' fs' (beside ss w))
+      by_use : (b : Bool) → To (cst + lay (suc (suc (length fs)))) (if b then begin_behind p k (initializer p w t) t h fs w else begin p k h fs w) (if b then begin_behind p' no_contracts (initializer p w t) t h' fs' (beside ss w) else begin p' no_contracts h' fs' (beside ss w))
       by_use true = begins_by (initializer p w t) t h h' fs fs' w ss pair first st under nb nb' ok a bes deep count (λ m e. r.owned t w m a e)
       by_use false = Unwinding.reach_within p k ms g r (cst + lay (suc (length fs))) _ _ _ (omega arith) (begins_so h h' fs fs' w ss pair first st under bes deep)
 
   -- a method with a body is called
   pub enters : (owner : Ty) (m : ℕ) (args : List Ty) (values : List Value) (b b' : Continuation) (fs fs' : List Frame) (w : World) (ss : List Statics) → m < r.methods → IsTrue (is_below r.types owner) → below b b' fs fs' → hasnt_begun b ≡ false → hasnt_begun b' ≡ false → valid fs → IsBeside w ss → w.depth ≤ suc k.settings.guard → w.depth ≡ count_groups fs
-      → To (2 * cst + lay (suc (suc (length fs)))) (enter p k owner m args values b fs w) (enter p' no_contracts owner m args values b' fs' (beside ss w))
+      → To (cst + lay (suc (suc (length fs)))) (enter p k owner m args values b fs w) (enter p' no_contracts owner m args values b' fs' (beside ss w))
   enters owner m args values b b' fs fs' w ss old a under nb nb' ok bes deep count =
-      subst (λ o. To (2 * cst + lay (suc (suc (length fs)))) (enter p k owner m args values b fs w) (if_there o (beside ss w) (λ cells. begin_use p' no_contracts owner (frame_with p' no_contracts owner m args cells b' fs') fs' (beside ss w)))) (sym (ap (λ ts. stored_args p' ts values) (params_same owner m args) ∙ passed_same (param_types p owner m args) values))
+      subst (λ o. To (cst + lay (suc (suc (length fs)))) (enter p k owner m args values b fs w) (if_there o (beside ss w) (λ cells. begin_use p' no_contracts owner (frame_with p' no_contracts owner m args cells b' fs') fs' (beside ss w)))) (sym (ap (λ ts. stored_args p' ts values) (params_same owner m args) ∙ passed_same (param_types p owner m args) values))
       (by_cells (stored_args p (param_types p owner m args) values))
     where
-      by_cells : (o : Option (List Cell)) → To (2 * cst + lay (suc (suc (length fs)))) (if_there o w (λ cells. begin_use p k owner (frame_with p k owner m args cells b fs) fs w)) (if_there o (beside ss w) (λ cells. begin_use p' no_contracts owner (frame_with p' no_contracts owner m args cells b' fs') fs' (beside ss w)))
+      by_cells : (o : Option (List Cell)) → To (cst + lay (suc (suc (length fs)))) (if_there o w (λ cells. begin_use p k owner (frame_with p k owner m args cells b fs) fs w)) (if_there o (beside ss w) (λ cells. begin_use p' no_contracts owner (frame_with p' no_contracts owner m args cells b' fs') fs' (beside ss w)))
       by_cells None = Arriving.stuck_both p k ms g r _ w ss bes
       by_cells (Some cells) =
           uses_begin owner (frame_with p k owner m args cells b fs) (frame_with p' no_contracts owner m args cells b' fs') fs fs' w ss (new_pair owner m args cells b b' fs fs' old (as_many p k ms g r b b' fs fs' under)) refl
           (new_stands owner m args cells b None fs old (λ t e. absurd (cc e))) under nb nb' ok a bes deep count
+
+  -- a struct's constructor is called, with a pointer to the struct behind its arguments
+  pub enters_struct : (owner : Ty) (m : ℕ) (args : List Ty) (values : List Value) (fs fs' : List Frame) (w : World) (ss : List Statics) → m < r.methods → IsTrue (is_below r.types owner) → below PushStruct PushStruct fs fs' → valid fs → IsBeside w ss → w.depth ≤ suc k.settings.guard → w.depth ≡ count_groups fs
+      → To (cst + lay (suc (suc (length fs)))) (enter_struct p k owner m args values fs w) (enter_struct p' no_contracts owner m args values fs' (beside ss w))
+  enters_struct owner m args values fs fs' w ss old a under ok bes deep count =
+      subst (λ n. To (cst + lay (suc (suc (length fs)))) (first (length fs)) (second (param_types p' owner m args) n (default_cell p' owner))) (sym many)
+      (subst (λ ts. To (cst + lay (suc (suc (length fs)))) (first (length fs)) (second ts (length fs) (default_cell p' owner))) (sym (params_same owner m args))
+      (subst (λ o. To (cst + lay (suc (suc (length fs)))) (first (length fs)) (begins_with o (default_cell p' owner))) (sym (passed_same (param_types p owner m args) (pointer (length fs) ∷ values)))
+      (subst (λ c. To (cst + lay (suc (suc (length fs)))) (first (length fs)) (begins_with (stored_args p (param_types p owner m args) (pointer (length fs) ∷ values)) c)) (sym (default_cell_same p ms owner))
+      (by_cells (stored_args p (param_types p owner m args) (pointer (length fs) ∷ values))))))
+    where
+      many : length fs' ≡ length fs
+      many = as_many p k ms g r PushStruct PushStruct fs fs' under
+
+      pointer : ℕ → Value
+      pointer n = Ptr (Arg n m (length values + 1) [])
+
+      begins_with : Option (List Cell) → Cell → Next
+      begins_with o c = if_there o (beside ss w) (λ cells. begin_use p' no_contracts owner (frame_with p' no_contracts owner m args (cells ++ c ∷ []) PushStruct fs') fs' (beside ss w))
+
+      first : ℕ → Next
+      first n = if_there (stored_args p (param_types p owner m args) (pointer n ∷ values)) w (λ cells. begin_use p k owner (frame_with p k owner m args (cells ++ default_cell p owner ∷ []) PushStruct fs) fs w)
+
+      second : List Ty → ℕ → Cell → Next
+      second ts n c = begins_with (stored_args p' ts (pointer n ∷ values)) c
+
+      by_cells : (o : Option (List Cell)) → To (cst + lay (suc (suc (length fs)))) (if_there o w (λ cells. begin_use p k owner (frame_with p k owner m args (cells ++ default_cell p owner ∷ []) PushStruct fs) fs w)) (begins_with o (default_cell p owner))
+      by_cells None = Arriving.stuck_both p k ms g r _ w ss bes
+      by_cells (Some cells) =
+          let all : List Cell = cells ++ default_cell p owner ∷ [] in
+          uses_begin owner (frame_with p k owner m args all PushStruct fs) (frame_with p' no_contracts owner m args all PushStruct fs') fs fs' w ss (new_pair owner m args all PushStruct PushStruct fs fs' old many) refl
+          (new_stands owner m args all PushStruct None fs old (λ t e. absurd (cc e))) under refl refl ok a bes deep count

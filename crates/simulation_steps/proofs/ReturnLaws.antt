@@ -1,6 +1,6 @@
 -- Frames return in both runs, and groups end.
 use Rattle.std.proofs.Common.{◌≡◌, ℕ, suc, ◌+◌, ◌*◌, ◌<◌, ◌≤◌, true, false, List, [], ◌∷◌, length, Option, Some, None, refl, sym, ap, ◌∙◌, subst, arith}
-use Rattle.std.specs.Prelude.{if◌then◌else◌, IsTrue}
+use Rattle.std.specs.Prelude.{if◌then◌else◌, IsTrue, option_and_then}
 use Rattle.cil_model.specs.declared.ty.Ty.{Ty}
 use Rattle.cil_model.specs.declared.value.Value.{Value, Obj}
 use Rattle.cil_model.specs.declared.contract.Contracts.{Contracts}
@@ -20,6 +20,7 @@ use Rattle.cil_semantics.specs.declared.state.Frame.{Frame}
 use Rattle.cil_semantics.specs.State.{Next, pushed, with_stack, with_local, raised, lowered}
 use Rattle.cil_semantics.specs.declared.state.Continuation.{Continuation}
 use Rattle.cil_semantics.specs.declared.state.Continuation.TheVariants.{Push, PushObject, PushStruct, ThrowObject, BeginCallee, UseField, TryNext}
+use Rattle.cil_semantics.specs.Acts.{truth}
 use Rattle.cil_semantics.specs.Contracted.{pieces, Piece, Plan, runs_at}
 use Rattle.cil_semantics.specs.Unwind.{body_of, plan_at, piece_at, here_of, next_place, begin_piece, begin_group, begin_rest, next_piece, no_handler_left, drops, ends_frame, unwind}
 use Rattle.cil_semantics.specs.Frames.{stuck, use_static}
@@ -27,12 +28,11 @@ use Rattle.cil_semantics.specs.Returns.{push_below, return_with, return_to, begi
 use Rattle.cil_semantics.specs.Checks.{AddedNumbers}
 use Rattle.splice_facts.specs.Bodies.{with_methods}
 use Rattle.splice_facts.specs.Grown.{beside}
-use Rattle.splice_facts.specs.WellFormed.{WellFormedContinuation, WellFormedAccess}
+use Rattle.splice_facts.specs.WellFormed.{WellFormedContinuation, WellFormedAccess, WellFormedObjects}
 use Rattle.splice_facts.specs.Layout.{Marks, Keeps, IsHere, CanArrive}
 use Rattle.splice_facts.specs.Spliced.{Paired, stands, Arrives}
 use Rattle.splice_facts.specs.Related.{Rewritten, HandlingPairs, Waits, FramePair, Under, count_groups, in_group}
 use Rattle.splice_facts.specs.Related as Pairs
-use Rattle.simulation_steps.specs.Steps as Steps
 use Rattle.splice_facts.proofs.ComesLaws.{found_piece}
 use Rattle.simulation.proofs.ArriveLaws as Arriving
 use Rattle.simulation.proofs.ArriveLaws.{group_begins, groups_of, arrives_here, rest_here}
@@ -41,6 +41,7 @@ use Rattle.simulation.proofs.UnwindLaws.{as_many, unwinds, unwinds_at, continued
 use Rattle.simulation.proofs.PushLaws as Pushing
 use Rattle.simulation_steps.proofs.PerformLaws as Performing
 use Rattle.simulation_steps.proofs.EnterLaws as Entering
+use Rattle.simulation_steps.proofs.DelegateLaws as Delegating
 
 module _ (p : Program) (k : Contracts) (ms : List MethodDesc) (g : AddedNumbers) (r : Rewritten p k ms g) where
   abbrev p' : Program
@@ -115,29 +116,34 @@ module _ (p : Program) (k : Contracts) (ms : List MethodDesc) (g : AddedNumbers)
       subst (λ z. To (cst + lay (suc (length hs))) (use_static p k a h h.local hs w) (use_static p' no_contracts a h' z hs' (beside ss w))) (sym (ap (λ (z : Frame). z.local) (t.pair).same))
       (Performing.uses_static p k ms g r h h' hs hs' w ss a h.local t on (record { result = refl; locals = refl; captured = refl }) fine)
 
-  common_returns : (b : Continuation) (args : List Cell) (v : Option Value) (fs fs' : List Frame) (w : World) (ss : List Statics) → Pairs.IsCommon p k ms g r b → below b b fs fs' → valid fs → IsBeside w ss → w.depth ≤ suc k.settings.guard → Steps.TriesOn p k ms g r b args v fs fs' w ss (cst + lay (length fs)) → ((a : Rattle.cil_semantics.specs.declared.state.Access.Access) → b ≡ UseField a → To (cst + lay (length fs)) (return_with p k (UseField a) args v fs w) (return_with p' no_contracts (UseField a) args v fs' (beside ss w)))
-      → To (cst + lay (length fs)) (return_with p k b args v fs w) (return_with p' no_contracts b args v fs' (beside ss w))
-  common_returns Push args v fs fs' w ss c u ok bes deep t us = Pushing.pushes p k ms g r Push Push v fs fs' w ss c u ok bes deep
-  common_returns (PushObject x) args v fs fs' w ss c u ok bes deep t us = Pushing.pushes p k ms g r (PushObject x) (PushObject x) (Some x) fs fs' w ss c u ok bes deep
-  common_returns PushStruct args v fs fs' w ss c u ok bes deep t us = Pushing.pushes p k ms g r PushStruct PushStruct (last_cell args) fs fs' w ss c u ok bes deep
-  common_returns (ThrowObject x) args v fs fs' w ss c u ok bes deep t us = absurd c
-  common_returns BeginCallee args v fs fs' w ss c u ok bes deep t us = absurd c
-  common_returns (UseField a) args v fs fs' w ss c u ok bes deep t us = us a refl
-  common_returns (TryNext e t0 l) args v fs fs' w ss c u ok bes deep t us = t
+  sooner : (n : ℕ) (x y : Next) → To (cst + lay n) x y → To (cst + lay (suc (suc n))) x y
+  sooner n x y h = Unwinding.reach_within p k ms g r (cst + lay n) _ _ _ (omega arith) h
 
-  pub returns_down : (b b' : Continuation) (args : List Cell) (v : Option Value) (fs fs' : List Frame) (w : World) (ss : List Statics) → below b b' fs fs' → valid fs → WellFormedContinuation (Pairs.bounds p k ms g r) b → IsBeside w ss → w.depth ≤ suc k.settings.guard → w.depth ≡ count_groups fs → Steps.TriesOn p k ms g r b args v fs fs' w ss (cst + lay (length fs))
-      → To (3 * cst + lay (length fs)) (return_with p k b args v fs w) (return_with p' no_contracts b' args v fs' (beside ss w))
-  returns_down b b' args v fs fs' w ss (Under.bottom b1 c) ok fine bes deep count t =
-      Unwinding.reach_within p k ms g r (cst + lay 0) _ _ _ (omega arith) (common_returns b1 args v [] [] w ss c (Under.bottom b1 c) ok bes deep t (λ a e. Arriving.stuck_both p k ms g r _ w ss bes))
-  returns_down b b' args v fs fs' w ss (Under.waits b1 h h' hs hs' c pair here on under) ok fine bes deep count t =
+  abbrev WellFormedHeap : World → Type 0
+  WellFormedHeap w = WellFormedObjects (Pairs.bounds p k ms g r) w.heap
+
+  common_returns : (b : Continuation) (args : List Cell) (v : Option Value) (fs fs' : List Frame) (w : World) (ss : List Statics) → Pairs.IsCommon p k ms g r b → below b b fs fs' → valid fs → WellFormedHeap w → IsBeside w ss → w.depth ≤ suc k.settings.guard → w.depth ≡ count_groups fs → ((a : Rattle.cil_semantics.specs.declared.state.Access.Access) → b ≡ UseField a → To (cst + lay (length fs)) (return_with p k (UseField a) args v fs w) (return_with p' no_contracts (UseField a) args v fs' (beside ss w)))
+      → To (cst + lay (suc (suc (length fs)))) (return_with p k b args v fs w) (return_with p' no_contracts b args v fs' (beside ss w))
+  common_returns Push args v fs fs' w ss c u ok heap bes deep count us = sooner (length fs) _ _ (Pushing.pushes p k ms g r Push Push v fs fs' w ss c u ok bes deep)
+  common_returns (PushObject x) args v fs fs' w ss c u ok heap bes deep count us = sooner (length fs) _ _ (Pushing.pushes p k ms g r (PushObject x) (PushObject x) (Some x) fs fs' w ss c u ok bes deep)
+  common_returns PushStruct args v fs fs' w ss c u ok heap bes deep count us = sooner (length fs) _ _ (Pushing.pushes p k ms g r PushStruct PushStruct (last_cell args) fs fs' w ss c u ok bes deep)
+  common_returns (ThrowObject x) args v fs fs' w ss c u ok heap bes deep count us = absurd c
+  common_returns BeginCallee args v fs fs' w ss c u ok heap bes deep count us = absurd c
+  common_returns (UseField a) args v fs fs' w ss c u ok heap bes deep count us = sooner (length fs) _ _ (us a refl)
+  common_returns (TryNext e t0 l) args v fs fs' w ss c u ok heap bes deep count us = Delegating.answers_tried p k ms g r e t0 l (option_and_then truth v) (TryNext e t0 l) fs fs' w ss c u ok heap bes deep count
+
+  pub returns_down : (b b' : Continuation) (args : List Cell) (v : Option Value) (fs fs' : List Frame) (w : World) (ss : List Statics) → below b b' fs fs' → valid fs → WellFormedContinuation (Pairs.bounds p k ms g r) b → WellFormedHeap w → IsBeside w ss → w.depth ≤ suc k.settings.guard → w.depth ≡ count_groups fs
+      → To (cst + lay (suc (suc (length fs)))) (return_with p k b args v fs w) (return_with p' no_contracts b' args v fs' (beside ss w))
+  returns_down b b' args v fs fs' w ss (Under.bottom b1 c) ok fine heap bes deep count =
+      common_returns b1 args v [] [] w ss c (Under.bottom b1 c) ok heap bes deep count (λ a e. Arriving.stuck_both p k ms g r _ w ss bes)
+  returns_down b b' args v fs fs' w ss (Under.waits b1 h h' hs hs' c pair here on under) ok fine heap bes deep count =
       let top : Performing.Top p k ms g r h h' hs hs' w ss = record { pair = pair; here = here; under = under; stands = ok.0; others = ok.1; alike = bes; deep = deep; count = count } in
-      Unwinding.reach_within p k ms g r (cst + lay (suc (length hs))) _ _ _ (omega arith)
-      (common_returns b1 args v (h ∷ hs) (h' ∷ hs') w ss c (Under.waits b1 h h' hs hs' c pair here on under) ok bes deep t
-      (λ a e. uses_so a args v h h' hs hs' w ss top on (subst (WellFormedContinuation (Pairs.bounds p k ms g r)) e fine)))
-  returns_down b b' args v fs fs' w ss (Under.begins h h' hs hs' pair first n n' under) ok fine bes deep count t =
-      Unwinding.reach_within p k ms g r (cst + lay (suc (length hs))) _ _ _ (omega arith) (Entering.begins_so p k ms g r h h' hs hs' w ss pair first ok.0 under bes deep)
-  returns_down b b' args v fs fs' w ss (Under.throws x q h h' hs hs' pair here th under) ok fine bes deep count t =
-      makes_throw x q h h' hs hs' w ss pair here th under ok.0 ok.1 bes deep count
+      common_returns b1 args v (h ∷ hs) (h' ∷ hs') w ss c (Under.waits b1 h h' hs hs' c pair here on under) ok heap bes deep count
+      (λ a e. uses_so a args v h h' hs hs' w ss top on (subst (WellFormedContinuation (Pairs.bounds p k ms g r)) e fine))
+  returns_down b b' args v fs fs' w ss (Under.begins h h' hs hs' pair first n n' under) ok fine heap bes deep count =
+      sooner (suc (length hs)) _ _ (Entering.begins_so p k ms g r h h' hs hs' w ss pair first ok.0 under bes deep)
+  returns_down b b' args v fs fs' w ss (Under.throws x q h h' hs hs' pair here th under) ok fine heap bes deep count =
+      Unwinding.reach_within p k ms g r (3 * cst + lay (suc (length hs))) _ _ _ (omega arith) (makes_throw x q h h' hs hs' w ss pair here th under ok.0 ok.1 bes deep count)
 
   -- ---- groups end
 
@@ -152,21 +158,21 @@ module _ (p : Program) (k : Contracts) (ms : List MethodDesc) (g : AddedNumbers)
     pub fine_back : WellFormedContinuation (Pairs.bounds p k ms g r) h.continuation
     pub deep : w.depth ≤ suc k.settings.guard
     pub count : w.depth ≡ count_groups fs
-    pub tries : (v2 : World) (ss2 : List Statics) → IsBeside v2 ss2 → Steps.TriesOn p k ms g r h.continuation l.args l.result fs fs' v2 ss2 (cst + lay (length fs))
+    pub heap : WellFormedHeap w
 
   abbrev at_new : Frame → LocalState → List Cell → ℕ → Continuation → List Frame → World → List Statics → Next
   at_new h l ex q b' fs' w ss = stands p k p' g r.types r.depths h l ex q b' fs' w ss
 
   -- behind the invariants the value goes down
   invariants_over : (c : Plan) (h : Frame) (l : LocalState) (ex : List Cell) (b' : Continuation) (fs fs' : List Frame) (w : World) (ss : List Statics) → Rattle.splice_facts.specs.Spliced.Stays p k p' g r.types r.depths c h l.result → IsBeside w ss → Over c h l ex b' fs fs' w ss
-      → To (4 * cst + lay (length fs)) (return_to p k (with_local l h) fs w) (at_new h l ex ((mk h.method).out group.Invariant) b' fs' w ss)
+      → To (2 * cst + lay (suc (suc (length fs)))) (return_to p k (with_local l h) fs w) (at_new h l ex ((mk h.method).out group.Invariant) b' fs' w ss)
   unfolding return_to
   invariants_over c h l ex b' fs fs' w ss stays bes z =
       let h1 : Frame = record h { local = l } in
       let scene : Paired p k p' g r.types r.depths (mk h.method) h1 fs fs' w ex ss = record { keeps = z.keeps; beside = bes; numbers = as_many p k ms g r h.continuation b' fs fs' z.under; deep = z.deep } in
       let t = (groups_of p k ms g r h.method c z.plan z.old).returns h1 fs fs' w ex ss b' refl stays scene in
-      Unwinding.reach_within p k ms g r (cst + (3 * cst + lay (length fs))) _ _ _ (omega arith)
-      (Unwinding.reach_by p k ms g r cst (3 * cst + lay (length fs)) _ _ _ t (returns_down h.continuation b' l.args l.result fs fs' w ss z.under z.others z.fine_back bes z.deep z.count (z.tries w ss bes)))
+      Unwinding.reach_within p k ms g r (cst + (cst + lay (suc (suc (length fs))))) _ _ _ (omega arith)
+      (Unwinding.reach_by p k ms g r cst (cst + lay (suc (suc (length fs)))) _ _ _ t (returns_down h.continuation b' l.args l.result fs fs' w ss z.under z.others z.fine_back z.heap bes z.deep z.count))
 
   pub stack_gone : (h : Frame) (l : LocalState) (fs : List Frame) (w : World) → return_to p k (with_local (with_stack l []) h) fs w ≡ return_to p k (with_local l h) fs w
   unfolding return_to
@@ -183,14 +189,14 @@ module _ (p : Program) (k : Contracts) (ms : List MethodDesc) (g : AddedNumbers)
 
   -- the group of invariants begins, or the value goes down
   pub invariants_begin : (c : Plan) (h : Frame) (l : LocalState) (ex : List Cell) (b' : Continuation) (fs fs' : List Frame) (w : World) (ss : List Statics) → Rattle.splice_facts.specs.Spliced.Stays p k p' g r.types r.depths c h l.result → l.stack ≡ [] → h.thrown ≡ None → IsBeside w ss → Over c h l ex b' fs fs' w ss
-      → To (2 * cst + lay (suc (length fs))) (begin_invariants p k c (with_local l h) fs w) (at_new h l ex ((mk h.method).door group.Invariant) b' fs' w ss)
+      → To (3 * cst + lay (suc (suc (length fs)))) (begin_invariants p k c (with_local l h) fs w) (at_new h l ex ((mk h.method).door group.Invariant) b' fs' w ss)
   invariants_begin c h l ex b' fs fs' w ss stays empty bare bes z =
-      group_begins p k ms g r c group.Invariant h l ex b' fs fs' w ss (return_to p k (with_local l h) fs w) z.plan z.old (λ d. cc d) empty (subst (λ o. Unwinding.Fits p k ms g r group.Invariant o) (sym bare) tt) z.keeps bes (as_many p k ms g r h.continuation b' fs fs' z.under) z.deep z.under (2 * cst + lay (suc (length fs))) (omega arith)
+      group_begins p k ms g r c group.Invariant h l ex b' fs fs' w ss (return_to p k (with_local l h) fs w) z.plan z.old (λ d. cc d) empty (subst (λ o. Unwinding.Fits p k ms g r group.Invariant o) (sym bare) tt) z.keeps bes (as_many p k ms g r h.continuation b' fs fs' z.under) z.deep z.under (3 * cst + lay (suc (suc (length fs)))) (omega arith)
       (λ a.
-      let rest = invariants_over c h (with_stack l []) a.extra b' fs fs' w a.statics stays a.beside (record { plan = z.plan; old = z.old; keeps = a.keeps; under = z.under; others = z.others; own = z.own; fine_back = z.fine_back; deep = z.deep; count = z.count; tries = z.tries }) in
-      Unwinding.reach_within p k ms g r (cst + (4 * cst + lay (length fs))) _ _ _ (omega arith)
-      (Unwinding.reach_by p k ms g r cst (4 * cst + lay (length fs)) _ _ _ a.comes
-      (subst (λ y. To (4 * cst + lay (length fs)) y (at_new h (with_stack l []) a.extra ((mk h.method).out group.Invariant) b' fs' w a.statics)) (stack_gone h l fs w) rest)))
+      let rest = invariants_over c h (with_stack l []) a.extra b' fs fs' w a.statics stays a.beside (record { plan = z.plan; old = z.old; keeps = a.keeps; under = z.under; others = z.others; own = z.own; fine_back = z.fine_back; deep = z.deep; count = z.count; heap = z.heap }) in
+      Unwinding.reach_within p k ms g r (cst + (2 * cst + lay (suc (suc (length fs))))) _ _ _ (omega arith)
+      (Unwinding.reach_by p k ms g r cst (2 * cst + lay (suc (suc (length fs)))) _ _ _ a.comes
+      (subst (λ y. To (2 * cst + lay (suc (suc (length fs)))) y (at_new h (with_stack l []) a.extra ((mk h.method).out group.Invariant) b' fs' w a.statics)) (stack_gone h l fs w) rest)))
 
   -- the clauses on exceptions are over
   throws_over : (c : Plan) (h : Frame) (l : LocalState) (ex : List Cell) (b' : Continuation) (fs fs' : List Frame) (w : World) (ss : List Statics) (x : ℕ) → Rattle.splice_facts.specs.Spliced.has_any p k p' g r.types r.depths (pieces c group.Throw) ≡ true → h.thrown ≡ Some x → IsBeside w ss → Over c h l ex b' fs fs' w ss
@@ -220,14 +226,14 @@ module _ (p : Program) (k : Contracts) (ms : List MethodDesc) (g : AddedNumbers)
 
   -- any group is over
   pub group_is_over : (c : Plan) (gr : Group) (h : Frame) (l : LocalState) (ex : List Cell) (b' : Continuation) (fs fs' : List Frame) (w : World) (ss : List Statics) → (gr ≡ group.Inline → ⊥) → Rattle.splice_facts.specs.Spliced.StaysIn p k p' g r.types r.depths c gr h l.result → Unwinding.Fits p k ms g r gr h.thrown → IsBeside w ss → Over c h (with_stack l []) ex b' fs fs' w ss
-      → To (2 * cst + lay (suc (length fs))) (group_over p k c gr (with_local l h) fs w) (at_new h (with_stack l []) ex ((mk h.method).out gr) b' fs' w ss)
+      → To (3 * cst + lay (suc (suc (length fs)))) (group_over p k c gr (with_local l h) fs w) (at_new h (with_stack l []) ex ((mk h.method).out gr) b' fs' w ss)
   group_is_over c group.Inline h l ex b' fs fs' w ss n stays fit bes z = absurd (n refl)
   group_is_over c group.Invariant h l ex b' fs fs' w ss n stays fit bes z =
-      Unwinding.reach_within p k ms g r (4 * cst + lay (length fs)) _ _ _ (omega arith)
-      (subst (λ y. To (4 * cst + lay (length fs)) y (at_new h (with_stack l []) ex ((mk h.method).out group.Invariant) b' fs' w ss)) (stack_gone h l fs w) (invariants_over c h (with_stack l []) ex b' fs fs' w ss stays bes z))
+      Unwinding.reach_within p k ms g r (2 * cst + lay (suc (suc (length fs)))) _ _ _ (omega arith)
+      (subst (λ y. To (2 * cst + lay (suc (suc (length fs)))) y (at_new h (with_stack l []) ex ((mk h.method).out group.Invariant) b' fs' w ss)) (stack_gone h l fs w) (invariants_over c h (with_stack l []) ex b' fs fs' w ss stays bes z))
   group_is_over c group.Exit h l ex b' fs fs' w ss n stays fit bes z =
-      subst (λ q. To (2 * cst + lay (suc (length fs))) (begin_invariants p k c (with_local l h) fs w) (at_new h (with_stack l []) ex q b' fs' w ss)) (sym (groups_of p k ms g r h.method c z.plan z.old).then_invariants)
-      (subst (λ y. To (2 * cst + lay (suc (length fs))) y (at_new h (with_stack l []) ex ((mk h.method).door group.Invariant) b' fs' w ss)) (group_stack c group.Invariant h l fs w (return_to p k (with_local l h) fs w) (return_to p k (with_local (with_stack l []) h) fs w) (stack_gone h l fs w))
+      subst (λ q. To (3 * cst + lay (suc (suc (length fs)))) (begin_invariants p k c (with_local l h) fs w) (at_new h (with_stack l []) ex q b' fs' w ss)) (sym (groups_of p k ms g r h.method c z.plan z.old).then_invariants)
+      (subst (λ y. To (3 * cst + lay (suc (suc (length fs)))) y (at_new h (with_stack l []) ex ((mk h.method).door group.Invariant) b' fs' w ss)) (group_stack c group.Invariant h l fs w (return_to p k (with_local l h) fs w) (return_to p k (with_local (with_stack l []) h) fs w) (stack_gone h l fs w))
       (invariants_begin c h (with_stack l []) ex b' fs fs' w ss stays refl (not_thrown group.Exit h.thrown fit (λ e. cc e)) bes z))
   group_is_over c group.Throw h l ex b' fs fs' w ss n stays fit bes z = Unwinding.reach_within p k ms g r (3 * cst + lay (length fs)) _ _ _ (omega arith) (thrown_over c h (with_stack l []) ex b' fs fs' w ss h.thrown stays refl fit bes z)
   group_is_over c group.Entry h l ex b' fs fs' w ss n stays fit bes z =
@@ -237,12 +243,12 @@ module _ (p : Program) (k : Contracts) (ms : List MethodDesc) (g : AddedNumbers)
 
   -- behind a piece the next one begins, or the group is over
   pub piece_is_over : (c : Plan) (gr : Group) (j : ℕ) (x : Piece) (h : Frame) (l : LocalState) (ex : List Cell) (b' : Continuation) (fs fs' : List Frame) (w : World) (ss : List Statics) → (gr ≡ group.Inline → ⊥) → Rattle.splice_facts.specs.Spliced.StaysIn p k p' g r.types r.depths c gr h l.result → Unwinding.Fits p k ms g r gr h.thrown → piece_at (Some c) gr j ≡ Some x → Over c h (with_stack l []) ex b' fs fs' (lowered w) ss → IsBeside w ss → w.depth ≤ suc k.settings.guard → 0 < w.depth
-      → To (3 * cst + lay (suc (length fs))) (piece_over p k c gr j (with_local l h) fs w) (at_new h l ex ((mk h.method).behind gr j) b' fs' w ss)
+      → To (4 * cst + lay (suc (suc (length fs)))) (piece_over p k c gr j (with_local l h) fs w) (at_new h l ex ((mk h.method).behind gr j) b' fs' w ss)
   piece_is_over c gr j x h l ex b' fs fs' w ss n stays fit there z bes deep some =
       let h1 : Frame = record h { local = l } in
       let scene : Paired p k p' g r.types r.depths (mk h.method) h1 fs fs' w ex ss = record { keeps = record { typed = z.keeps.typed; result = z.keeps.result; thrown = z.keeps.thrown; wide = z.keeps.wide; caps = z.keeps.caps }; beside = bes; numbers = as_many p k ms g r h.continuation b' fs fs' z.under; deep = deep } in
       let a = (groups_of p k ms g r h.method c z.plan z.old).continues gr j x h1 fs fs' w ex ss b' there refl fit some scene in
-      continued p k ms g r c gr h1 l b' fs fs' w (at_new h l ex ((mk h.method).behind gr j) b' fs' w ss) (group_over p k c gr (with_local l h) fs (lowered w)) (next_piece p c gr (j + 1) h fs w) z.plan z.old z.under (λ y e. found_piece p c gr (j + 1) h fs w y e) a (3 * cst + lay (suc (length fs))) (omega arith)
-      (λ a1. Unwinding.reach_within p k ms g r (cst + (2 * cst + lay (suc (length fs)))) _ _ _ (omega arith)
-      (Unwinding.reach_by p k ms g r cst (2 * cst + lay (suc (length fs))) _ _ _ a1.comes
-      (group_is_over c gr h l a1.extra b' fs fs' (lowered w) a1.statics n stays fit a1.beside (record { plan = z.plan; old = z.old; keeps = a1.keeps; under = z.under; others = z.others; own = z.own; fine_back = z.fine_back; deep = z.deep; count = z.count; tries = z.tries }))))
+      continued p k ms g r c gr h1 l b' fs fs' w (at_new h l ex ((mk h.method).behind gr j) b' fs' w ss) (group_over p k c gr (with_local l h) fs (lowered w)) (next_piece p c gr (j + 1) h fs w) z.plan z.old z.under (λ y e. found_piece p c gr (j + 1) h fs w y e) a (4 * cst + lay (suc (suc (length fs)))) (omega arith)
+      (λ a1. Unwinding.reach_within p k ms g r (cst + (3 * cst + lay (suc (suc (length fs))))) _ _ _ (omega arith)
+      (Unwinding.reach_by p k ms g r cst (3 * cst + lay (suc (suc (length fs)))) _ _ _ a1.comes
+      (group_is_over c gr h l a1.extra b' fs fs' (lowered w) a1.statics n stays fit a1.beside (record { plan = z.plan; old = z.old; keeps = a1.keeps; under = z.under; others = z.others; own = z.own; fine_back = z.fine_back; deep = z.deep; count = z.count; heap = z.heap }))))

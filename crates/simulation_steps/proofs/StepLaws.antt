@@ -105,7 +105,7 @@ module _ (p : Program) (k : Contracts) (ms : List MethodDesc) (g : AddedNumbers)
 
   -- ---- statics of a type whose initializer is to run
 
-  top_with : (f f' : Frame) (fs fs' : List Frame) (w : World) (ss : List Statics) (l : LocalState) (t : Top f f' fs fs' w ss) → KeepsPlaces f.local l → Top (record f { local = l }) (record f' { local = grow (t.pair.extra) l }) fs fs' w ss
+  pub top_with : (f f' : Frame) (fs fs' : List Frame) (w : World) (ss : List Statics) (l : LocalState) (t : Top f f' fs fs' w ss) → KeepsPlaces f.local l → Top (record f { local = l }) (record f' { local = grow (t.pair.extra) l }) fs fs' w ss
   top_with f f' fs fs' w ss l t kl =
       record { pair = Pointing.pair_changed p k ms g r _ f f' fs l t.pair kl; here = t.here; under = t.under; stands = Pointing.stands_changed p k ms g r f fs l t.stands kl.locals; others = t.others; alike = t.alike; deep = t.deep; count = t.count }
 
@@ -219,7 +219,7 @@ module _ (p : Program) (k : Contracts) (ms : List MethodDesc) (g : AddedNumbers)
       ∙ sym (Entering.len_append (local_tys p (here_of f fs) (body_of p f.method).locals) (clause_tys p (here_of f fs) (plan_at k p f.method)))
 
   -- what the plain run does at the copy of an instruction
-  copy_runs : (f f' : Frame) (fs fs' : List Frame) (w : World) (ss : List Statics) (t : Top f f' fs fs' w ss) (i : Instr) → Rattle.splice_facts.specs.Layout.fetch p k g (plan_at k p f.method) f.method f.at ≡ Some i → Rattle.splice_facts.specs.Spliced.IsPlainAt p k p' g r.types r.depths f.method (plan_at k p f.method) f.at i
+  pub copy_runs : (f f' : Frame) (fs fs' : List Frame) (w : World) (ss : List Statics) (t : Top f f' fs fs' w ss) (i : Instr) → Rattle.splice_facts.specs.Layout.fetch p k g (plan_at k p f.method) f.method f.at ≡ Some i → Rattle.splice_facts.specs.Spliced.IsPlainAt p k p' g r.types r.depths f.method (plan_at k p f.method) f.at i
       → step_frames p' no_contracts none (f' ∷ fs') (beside ss w) ≡ perform p' no_contracts none (grow_act (λ u. (mk f.method).places (moved_to u f.at)) (t.pair.extra) (act p (here_of f fs) i w f.local)) f' fs' (beside ss w)
   copy_runs f f' fs fs' w ss t i e plain =
       let sp = r.bodies f.method (t.stands).old in

@@ -1,6 +1,7 @@
 -- What the two runs do alike: reading and writing through pointers, and returning to the frame below.
-use Rattle.std.specs.Prelude.{◌≡◌, ℕ, suc, ◌+◌, ◌*◌, ◌≤◌, List, length, Option, Some, None}
+use Rattle.std.specs.Prelude.{◌≡◌, ℕ, suc, ◌+◌, ◌≤◌, Bool, false, List, length, Option, Some, None}
 use Rattle.cil_model.specs.declared.value.Value.{Value}
+use Rattle.cil_model.specs.declared.value.Value.TheOpen.{Value-F}
 use Rattle.cil_model.specs.declared.value.Pointer.{Pointer}
 use Rattle.cil_model.specs.declared.contract.Contracts.{Contracts}
 use Rattle.cil_model.specs.declared.program.Program.{Program}
@@ -11,12 +12,12 @@ use Rattle.cil_semantics.specs.declared.state.World.{World}
 use Rattle.cil_semantics.specs.declared.state.Statics.{Statics}
 use Rattle.cil_semantics.specs.declared.state.Frame.{Frame}
 use Rattle.cil_semantics.specs.declared.state.Continuation.{Continuation}
-use Rattle.cil_semantics.specs.declared.state.Continuation.TheVariants.{TryNext}
-use Rattle.cil_semantics.specs.Frames.{read, write}
+use Rattle.cil_semantics.specs.Unwind.{hasnt_begun}
+use Rattle.cil_semantics.specs.Frames.{read, write, enter_delegate}
 use Rattle.cil_semantics.specs.Returns.{return_with}
 use Rattle.cil_semantics.specs.Checks.{AddedNumbers}
 use Rattle.splice_facts.specs.Grown.{beside}
-use Rattle.splice_facts.specs.WellFormed.{WellFormedPointer, WellFormedContinuation}
+use Rattle.splice_facts.specs.WellFormed.{WellFormedPointer, WellFormedContinuation, WellFormedObjects}
 use Rattle.splice_facts.specs.Spliced.{Beside, cost}
 use Rattle.splice_facts.specs.Related.{Rewritten, written, bounds, ReachesIn, per_frame, Under, AllStand, count_groups}
 
@@ -42,14 +43,14 @@ module _ (p : Program) (k : Contracts) (ms : List MethodDesc) (g : AddedNumbers)
       (b b' : Continuation) (fs fs' : List Frame) (w : World) (ss : List Statics) (q : Pointer) (v : Value) → WellFormedPointer (bounds p k ms g r) q → Under p k ms g r b b' fs fs' → AllStand p k ms g r fs → BesideIn w ss
       → Stored b b' (length fs) (count_groups fs) w (write p fs w q v) (write (written p k ms g r) fs' (beside ss w) q v)
 
-  -- what ForAll and Exists do with an answer, which enters a delegate
-  abbrev pub TriesOn : Continuation → List Cell → Option Value → List Frame → List Frame → World → List Statics → ℕ → Type 0
-  TriesOn (TryNext e t l) args v fs fs' w ss n = ReachesIn p k ms g r n (return_with p k (TryNext e t l) args v fs w) (return_with (written p k ms g r) no_contracts (TryNext e t l) args v fs' (beside ss w))
-  TriesOn b args v fs fs' w ss n = Unit {0}
+  -- A delegate is entered alike, behind its type's initializer: what stands in the heap is of the input, its function too.
+  abbrev pub DelegatesAlike : Type 0
+  DelegatesAlike =
+      (gives : Bool) (v : Value-F Value) (values : List Value) (b b' : Continuation) (fs fs' : List Frame) (w : World) (ss : List Statics) → Under p k ms g r b b' fs fs' → hasnt_begun b ≡ false → hasnt_begun b' ≡ false → AllStand p k ms g r fs → WellFormedObjects (bounds p k ms g r) w.heap → BesideIn w ss → w.depth ≤ suc k.settings.guard → w.depth ≡ count_groups fs
+      → ReachesIn p k ms g r (cost k p + per_frame p k ms g r (suc (suc (length fs)))) (enter_delegate p k gives v values b fs w) (enter_delegate (written p k ms g r) no_contracts gives v values b' fs' (beside ss w))
 
-  -- A value goes down to the frame below: it is pushed there or used, an initializer's caller begins, or an exception that was made is thrown; ForAll and Exists are a premise.
+  -- A value goes down to the frame below: it is pushed there or used, tells ForAll and Exists what to try next, an initializer's caller begins, or an exception that was made is thrown.
   abbrev pub ReturnsAlike : Type 0
   ReturnsAlike =
-      (b b' : Continuation) (args : List Cell) (v : Option Value) (fs fs' : List Frame) (w : World) (ss : List Statics) → Under p k ms g r b b' fs fs' → AllStand p k ms g r fs → WellFormedContinuation (bounds p k ms g r) b → BesideIn w ss → w.depth ≤ suc k.settings.guard → w.depth ≡ count_groups fs
-      → TriesOn b args v fs fs' w ss (cost k p + per_frame p k ms g r (length fs))
-      → ReachesIn p k ms g r (3 * cost k p + per_frame p k ms g r (length fs)) (return_with p k b args v fs w) (return_with (written p k ms g r) no_contracts b' args v fs' (beside ss w))
+      (b b' : Continuation) (args : List Cell) (v : Option Value) (fs fs' : List Frame) (w : World) (ss : List Statics) → Under p k ms g r b b' fs fs' → AllStand p k ms g r fs → WellFormedContinuation (bounds p k ms g r) b → WellFormedObjects (bounds p k ms g r) w.heap → BesideIn w ss → w.depth ≤ suc k.settings.guard → w.depth ≡ count_groups fs
+      → ReachesIn p k ms g r (cost k p + per_frame p k ms g r (suc (suc (length fs)))) (return_with p k b args v fs w) (return_with (written p k ms g r) no_contracts b' args v fs' (beside ss w))

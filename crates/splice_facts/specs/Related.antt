@@ -23,6 +23,9 @@ use Rattle.cil_semantics.specs.declared.state.Continuation.{Continuation}
 use Rattle.cil_semantics.specs.declared.state.Continuation.TheVariants.{Push, PushObject, PushStruct, ThrowObject, BeginCallee, UseField, TryNext}
 use Rattle.cil_semantics.specs.Contracted.{Plan, effective_of}
 use Rattle.cil_semantics.specs.Unwind.{body_of, plan_at, here_of, moved_to, next_place, unwind}
+use Rattle.cil_semantics.specs.Lookups.{method_of}
+use Rattle.cil_semantics.specs.Dispatch.{Seen}
+use Rattle.cil_semantics.specs.Calls.{body_seen}
 use Rattle.cil_semantics.specs.Frames.{clause_tys, captured_tys, first_place}
 use Rattle.cil_semantics.specs.Returns.{returned}
 use Rattle.cil_semantics.specs.Checks.{AddedNumbers, Failure}
@@ -63,6 +66,10 @@ pub record Rewritten (p : Program) (k : Contracts) (ms : List MethodDesc) (g : A
   pub guard : k.settings.guard ≤ 100
   -- a type of the input has methods of the input
   pub owned : (t : Ty) (w : World) (m : ℕ) → IsTrue (is_below types t) → Rattle.cil_semantics.specs.Frames.initializer p w t ≡ Rattle.cil_semantics.specs.Frames.ToRun m → m < methods
+  -- a method of the input belongs to a type of the input
+  pub members : (m : ℕ) → m < methods → (method_of p m).owner < types
+  -- what was appended overrides and implements nothing: the body that a method of the input has for a type is one of the input
+  pub found : (t : Ty) (s x : Seen) → s.1 < methods → IsTrue (is_below types s.0) → body_seen p t s ≡ Some x → (x.1 < methods) × IsTrue (is_below types x.0)
 
 -- worlds that are alike where runs are over: but for the statics of what was appended
 pub record AlikeWorlds (n : ℕ) (w w' : World) : Type 0 where
@@ -301,7 +308,7 @@ module _ (p : Program) (k : Contracts) (ms : List MethodDesc) (g : AddedNumbers)
   abbrev pub Enters_alike : Type 0
   Enters_alike =
       (owner : Ty) (m : ℕ) (args : List Ty) (values : List Value) (b b' : Continuation) (fs fs' : List Frame) (w : World) (ss : List Statics) → m < r.methods → IsTrue (is_below r.types owner) → Under b b' fs fs' → hasnt_begun b ≡ false → hasnt_begun b' ≡ false → AllStand fs → Beside p k written g r.types r.depths w ss → w.depth ≤ suc k.settings.guard → w.depth ≡ count_groups fs
-      → ReachesIn (2 * cost k p + per_frame (suc (suc (length fs)))) (enter p k owner m args values b fs w) (enter written no_contracts owner m args values b' fs' (beside ss w))
+      → ReachesIn (cost k p + per_frame (suc (suc (length fs)))) (enter p k owner m args values b fs w) (enter written no_contracts owner m args values b' fs' (beside ss w))
 
   abbrev pub Plain_steps_answered : Type 0
   Plain_steps_answered =

@@ -1,8 +1,8 @@
 -- Calls outside in both runs.
 use Rattle.std.proofs.Common.{◌≡◌, ℕ, zero, suc, Bool, true, false, List, [], ◌∷◌, length, Option, Some, None, refl, sym, ap, ◌∙◌, subst}
 use Rattle.std.specs.Prelude.{option_and_then, if◌then◌else◌, map, codes}
-use Rattle.cil_model.specs.declared.ty.Ty.{Ty}
-use Rattle.cil_model.specs.declared.value.Value.{Value, out-Value}
+use Rattle.cil_model.specs.declared.ty.Ty.{Ty, out-Ty}
+use Rattle.cil_model.specs.declared.value.Value.{Value, out-Value, Text}
 use Rattle.cil_model.specs.declared.value.Value.TheOpen.{Value-F}
 use Rattle.cil_model.specs.declared.value.Pointer.{Pointer}
 use Rattle.cil_model.specs.declared.run.Reply.{Reply}
@@ -17,7 +17,7 @@ use Rattle.cil_semantics.specs.Lookups.{is_sub}
 use Rattle.il_opcodes.specs.declared.class.Storage.{Storage}
 use Rattle.il_opcodes.specs.declared.class.Storage.TheVariants.{Truncated, Long, NativeInt, Reference, Address, Fields, Opaque, Anything, Void}
 use Rattle.cil_semantics.specs.declared.state.Cell.{Cell}
-use Rattle.cil_semantics.specs.Places.{storage, stored_in, is_void}
+use Rattle.cil_semantics.specs.Places.{storage, stored_in, is_void, is_reference, default_value, default_cells, layout}
 use Rattle.cil_semantics.specs.State as state
 use Rattle.cil_semantics.specs.declared.state.Object.{Object}
 use Rattle.cil_semantics.specs.declared.state.World.{World}
@@ -26,16 +26,16 @@ use Rattle.cil_semantics.specs.declared.state.Frame.{Frame}
 use Rattle.cil_semantics.specs.declared.state.Continuation.{Continuation}
 use Rattle.cil_semantics.specs.State.{object_at}
 use Rattle.cil_semantics.specs.Frames.{stored_args, write}
-use Rattle.cil_semantics.specs.Outside.{fits_storage, fits_fields, fits_within, fits, refers_to, by_ref_args, pointer_in, stored_back, Answer, Returned, Threw, Unfit, next_reply, Member, given, recorded, thrown_out, result_of, answered, unfit, ask}
+use Rattle.cil_semantics.specs.Outside.{fits_storage, fits_fields, fits_within, fits, refers_to, by_ref_args, pointer_in, stored_back, Answer, Returned, Threw, Unfit, next_reply, Member, given, recorded, thrown_out, result_of, answered, unfit, ask, Made, MadeValue, MadeObject, is_string, made, with_made, new_result, making, ask_new}
 use Rattle.cil_semantics.specs.Checks.{AddedNumbers}
 use Rattle.splice_facts.specs.Bodies.{with_methods}
 use Rattle.splice_facts.specs.Grown.{beside}
 use Rattle.splice_facts.specs.WellFormed.{WellFormedPointer}
 use Rattle.splice_facts.specs.Related.{Rewritten, Under}
 use Rattle.splice_facts.specs.Related as Pairs
-use Rattle.simulation_calls.specs.Outside as Alike
+use Rattle.simulation_steps.specs.Outside as Alike
 use Rattle.simulation_steps.specs.Steps as Steps
-use Rattle.simulation.proofs.ProgramLaws.{fun_ext, storage_same, stored_in_same, field_types_same, sub_same, with_object_same}
+use Rattle.simulation.proofs.ProgramLaws.{fun_ext, storage_same, default_same, default_cells_same, layout_same, stored_in_same, field_types_same, sub_same, with_object_same}
 use Rattle.simulation.proofs.UnwindLaws as Unwinding
 use Rattle.simulation_steps.proofs.PointerLaws as Pointing
 use Rattle.simulation_steps.proofs.EnterLaws as Entering
@@ -170,4 +170,68 @@ module _ (p : Program) (k : Contracts) (ms : List MethodDesc) (g : AddedNumbers)
       by_cells None f1 = same_world
       by_cells (Some cells) f1 =
           answers_both b b' (length fs) (Pairs.count_groups fs) w.depth m (map (λ (c : Cell). c.value) cells) (next_reply w.replies) w (beside ss w) _ _ same_world
+          (stores_back b b' (by_ref_args m.params (map (λ (c : Cell). c.value) cells)) (next_reply w.replies).by_ref fs fs' w (beside ss w) (length fs) (Pairs.count_groups fs) w.depth (f1 cells refl) (record { under = under; others = ok; many = refl; groups = refl; statics = ss; alike = bes; world = refl; depth = refl }))
+
+  -- ---- newobj of an outside constructor
+
+  fields_same : (t : Ty) → default_cells p' (map (λ (x : ℕ × Ty). x.1) (layout p' t)) ≡ default_cells p (map (λ (x : ℕ × Ty). x.1) (layout p t))
+  fields_same t = ap (λ xs. default_cells p' (map (λ (x : ℕ × Ty). x.1) xs)) (layout_same p ms t) ∙ default_cells_same p ms (map (λ (x : ℕ × Ty). x.1) (layout p t))
+
+  made_as : Ty → Bool → List Cell → Value → Made
+  made_as t reference cells v = if is_string (out-Ty t) then MadeValue (Text []) else if reference then MadeObject (record { ty = t; cells = cells }) else MadeValue v
+
+  made_same : (t : Ty) → made p' t ≡ made p t
+  unfolding made made_as
+  made_same t =
+      ap (λ h. made_as t (is_reference h) (default_cells p' (map (λ (x : ℕ × Ty). x.1) (layout p' t))) (default_value p' t)) (storage_same p ms t)
+      ∙ ap (λ cs. made_as t (is_reference (storage p t)) cs (default_value p' t)) (fields_same t)
+      ∙ ap (λ v. made_as t (is_reference (storage p t)) (default_cells p (map (λ (x : ℕ × Ty). x.1) (layout p t))) v) (default_same p ms 1001 t)
+
+  made_answer : Program → Member → List Value → List Value → (Value → ReplyResult) → List Frame → Value × World → Answer
+  made_answer q m vs back reply gs x = Returned (Some x.0) gs (recorded m vs (reply x.0) back x.1)
+
+  both_made : (b b' : Continuation) (n c d : ℕ) (gs gs' : List Frame) (w w' : World) (m : Member) (vs back : List Value) (reply : Value → ReplyResult) (t : Ty) → Alike.Both p k ms g r b b' n c d gs gs' w w'
+      → Alike.BothAnswer p k ms g r b b' n c d (made_answer p m vs back reply gs (with_made p (made p t) w)) (made_answer p' m vs back reply gs' (with_made p' (made p' t) w'))
+  unfolding made_answer
+  both_made b b' n c d gs gs' w w' m vs back reply t z =
+      subst (λ x. Alike.BothAnswer p k ms g r b b' n c d (made_answer p m vs back reply gs (with_made p (made p t) w)) (made_answer p' m vs back reply gs' (with_made p' x w'))) (sym (made_same t))
+      (subst (λ u. Alike.BothAnswer p k ms g r b b' n c d (made_answer p m vs back reply gs (with_made p (made p t) w)) (made_answer p' m vs back reply gs' (with_made p' (made p t) u))) (sym z.world) (by_made (made p t)))
+    where
+      told : (u u' : World) (v : Value) → IsBeside u z.statics → u' ≡ beside z.statics u → u.depth ≡ d → Alike.Both p k ms g r b b' n c d gs gs' (recorded m vs (reply v) back u) (recorded m vs (reply v) back u')
+      told u u' v bes e depth = both_told b b' n c d gs gs' u u' m vs (reply v) back (record { under = z.under; others = z.others; many = z.many; groups = z.groups; statics = z.statics; alike = bes; world = e; depth = depth })
+
+      by_made : (x : Made) → Alike.BothAnswer p k ms g r b b' n c d (made_answer p m vs back reply gs (with_made p x w)) (made_answer p' m vs back reply gs' (with_made p' x (beside z.statics w)))
+      by_made (MadeValue v) = (refl, told w (beside z.statics w) v z.alike refl z.depth)
+      by_made (MadeObject o) =
+          (refl, told (Rattle.cil_semantics.specs.State.with_object p o w) (Rattle.cil_semantics.specs.State.with_object p' o (beside z.statics w)) (Rattle.cil_model.specs.declared.value.Value.Obj (Rattle.cil_semantics.specs.State.next_object w)) (record { statics = (z.alike).statics; depth = (z.alike).depth; bare = (z.alike).bare }) (with_object_same p ms o (beside z.statics w)) z.depth)
+
+  new_results : (b b' : Continuation) (n c d : ℕ) (gs gs' : List Frame) (w w' : World) (t : Ty) (m : Member) (vs : List Value) (x : ReplyResult) (back : List Value) (other other' : Answer) → Alike.BothAnswer p k ms g r b b' n c d other other' → Alike.Both p k ms g r b b' n c d gs gs' w w' → Alike.BothAnswer p k ms g r b b' n c d (new_result p t m vs x back gs w other) (new_result p' t m vs x back gs' w' other')
+  unfolding made_answer
+  new_results b b' n c d gs gs' w w' t m vs reply.Default back other other' zo z = both_made b b' n c d gs gs' w w' m vs back (λ v. reply.Given v) t z
+  new_results b b' n c d gs gs' w w' t m vs reply.Void back other other' zo z = both_made b b' n c d gs gs' w w' m vs back (λ v. reply.Void) t z
+  new_results b b' n c d gs gs' w w' t m vs (reply.Given v) back other other' zo z = zo
+  new_results b b' n c d gs gs' w w' t m vs (reply.Throw name) back other other' zo z = thrown_both b b' n c d gs gs' _ _ name other other' zo (both_told b b' n c d gs gs' w w' m vs (reply.Throw name) back z)
+
+  makes_both : (b b' : Continuation) (n c d : ℕ) (t : Ty) (m : Member) (vs : List Value) (x : Reply) (w w' : World) (o o' : Option (List Frame × World)) → Alike.BothWorlds p k ms g r d w w' → Alike.BothIf p k ms g r b b' n c d o o' → Alike.BothAnswer p k ms g r b b' n c d (making p t m vs x w o) (making p' t m vs x w' o')
+  makes_both b b' n c d t m vs x w w' None None zw z = worlds_told d w w' m vs x.result x.by_ref zw
+  makes_both b b' n c d t m vs x w w' (Some y) (Some y') zw z = new_results b b' n c d y.0 y'.0 y.1 y'.1 t m vs x.result x.by_ref (unfit m vs x w) (unfit m vs x w') (worlds_told d w w' m vs x.result x.by_ref zw) z
+  makes_both b b' n c d t m vs x w w' None (Some y') zw z = absurd z
+  makes_both b b' n c d t m vs x w w' (Some y) None zw z = absurd z
+
+  pub asks_new : (b b' : Continuation) (t : Ty) (m : Member) (values : List Value) (fs fs' : List Frame) (w : World) (ss : List Statics) → below b b' fs fs' → valid fs → IsBeside w ss → ((cells : List Cell) → stored_args p m.params values ≡ Some cells → Alike.WellFormedRefs p k ms g r (by_ref_args m.params (map (λ (c : Cell). c.value) cells)))
+      → Alike.BothAnswer p k ms g r b b' (length fs) (Pairs.count_groups fs) w.depth (ask_new p t m values fs w) (ask_new p' t m values fs' (beside ss w))
+  unfolding ask_new
+  asks_new b b' t m values fs fs' w ss under ok bes fine =
+      subst (λ o. Alike.BothAnswer p k ms g r b b' (length fs) (Pairs.count_groups fs) w.depth (ask_new p t m values fs w) (maybe (Unfit (beside ss w)) (asked p' fs' (beside ss w)) o)) (sym (Entering.passed_same p k ms g r m.params values)) (by_cells (stored_args p m.params values) fine)
+    where
+      asked : Program → List Frame → World → List Cell → Answer
+      asked q gs u cells = making q t m (map (λ (c : Cell). c.value) cells) (next_reply u.replies) u (stored_back q (by_ref_args m.params (map (λ (c : Cell). c.value) cells)) (next_reply u.replies).by_ref gs u)
+
+      same_world : Alike.BothWorlds p k ms g r w.depth w (beside ss w)
+      same_world = record { statics = ss; alike = bes; world = refl; depth = refl }
+
+      by_cells : (o : Option (List Cell)) → ((cells : List Cell) → o ≡ Some cells → Alike.WellFormedRefs p k ms g r (by_ref_args m.params (map (λ (c : Cell). c.value) cells))) → Alike.BothAnswer p k ms g r b b' (length fs) (Pairs.count_groups fs) w.depth (maybe (Unfit w) (asked p fs w) o) (maybe (Unfit (beside ss w)) (asked p' fs' (beside ss w)) o)
+      by_cells None f1 = same_world
+      by_cells (Some cells) f1 =
+          makes_both b b' (length fs) (Pairs.count_groups fs) w.depth t m (map (λ (c : Cell). c.value) cells) (next_reply w.replies) w (beside ss w) _ _ same_world
           (stores_back b b' (by_ref_args m.params (map (λ (c : Cell). c.value) cells)) (next_reply w.replies).by_ref fs fs' w (beside ss w) (length fs) (Pairs.count_groups fs) w.depth (f1 cells refl) (record { under = under; others = ok; many = refl; groups = refl; statics = ss; alike = bes; world = refl; depth = refl }))

@@ -1,13 +1,13 @@
 -- Calls of settled members in both runs.
 use Rattle.std.proofs.Common.{◌≡◌, ℕ, suc, ◌+◌, ◌*◌, ◌<◌, ◌≤◌, Bool, true, false, List, [], ◌∷◌, length, Option, Some, None, refl, sym, ap, ◌∙◌, subst, arith}
-use Rattle.std.specs.Prelude.{slice_get, ◌==◌, if◌then◌else◌, IsTrue, map, codes, not, ◌&&◌, ◌||◌, is_some}
+use Rattle.std.specs.Prelude.{slice_get, option_map, option_and_then, ◌==◌, if◌then◌else◌, IsTrue, map, codes, not, ◌&&◌, ◌||◌, is_some}
 use Rattle.cil_model.specs.declared.ty.Ty.{Ty, out-Ty}
 use Rattle.cil_model.specs.declared.value.Value.{Value, out-Value, Obj}
 use Rattle.cil_model.specs.declared.contract.Contracts.{Contracts}
 use Rattle.cil_model.specs.declared.program.Program.{Program}
 use Rattle.cil_model.specs.declared.program.MethodDesc.{MethodDesc}
 use Rattle.cil_model.specs.NoContracts.{no_contracts}
-use Rattle.cil_semantics.specs.Words.{any}
+use Rattle.cil_semantics.specs.Words.{any, maybe}
 use Rattle.cil_semantics.specs.Types.{under, same_ty, same_tys}
 use Rattle.cil_semantics.specs.Core.{Name, class_named, object_ty, string_ty, core_classes, contract_name, helper_name, event_name, event_params}
 use Rattle.cil_semantics.specs.Lookups.{type_of, method_of, args_of}
@@ -25,23 +25,29 @@ use Rattle.cil_semantics.specs.Acts.{ty_name, member_name}
 use Rattle.cil_semantics.specs.Unwind.{unwind, raise}
 use Rattle.cil_semantics.specs.Frames.{stuck, if_there, stored_args, param_types, enter}
 use Rattle.cil_semantics.specs.Outside.{Answer, Returned, Threw, Unfit, Member, ask, is_outside, member_of, default_reply}
-use Rattle.cil_semantics.specs.Returns.{push_below}
-use Rattle.cil_semantics.specs.Calls.{is_event, CoreMember, Constructor, Equality, Concatenation, TextLength, IsNullOrEmpty, Quantifier, NotCore, is_core_exception, is_named, is_outside_type, are_strings, string_member, core_of, string_answer, count_units, texted, Texted, NullText, SomeText, NotText, first_texted, on_answer, with_default, outside_call, plain_call, call_core, call_member, quantify}
+use Rattle.cil_semantics.specs.Frames.{next_try}
+use Rattle.cil_semantics.specs.declared.state.Remaining.{Remaining}
+use Rattle.cil_semantics.specs.declared.state.Remaining.TheVariants.{Range, Elements}
+use Rattle.cil_semantics.specs.Returns.{push_below, try_next}
+use Rattle.cil_semantics.specs.Calls.{is_event, CoreMember, Constructor, Equality, Concatenation, TextLength, IsNullOrEmpty, Quantifier, NotCore, is_core_exception, is_named, is_outside_type, are_strings, string_member, core_of, string_answer, number_in, array_in, count_units, texted, Texted, NullText, SomeText, NotText, first_texted, on_answer, with_default, outside_call, plain_call, call_core, call_member, quantify}
 use Rattle.cil_semantics.specs.Checks.{AddedNumbers}
 use Rattle.splice_facts.specs.Bodies.{with_methods}
 use Rattle.splice_facts.specs.Grown.{beside}
 use Rattle.machine_laws.specs.Answers.{is_below}
+use Rattle.splice_facts.specs.WellFormed.{WellFormedValues}
 use Rattle.splice_facts.specs.Related.{Rewritten, Under, count_groups}
 use Rattle.splice_facts.specs.Related as Pairs
-use Rattle.simulation_calls.specs.Outside as Alike
-use Rattle.simulation_calls.specs.Calls as Sites
+use Rattle.simulation_steps.specs.Outside as Alike
+use Rattle.simulation_objects.specs.Calls as Sites
 use Rattle.simulation.proofs.ProgramLaws.{fun_ext, storage_same, default_same, sub_same, with_object_same}
 use Rattle.simulation.proofs.ArriveLaws as Arriving
 use Rattle.simulation.proofs.UnwindLaws as Unwinding
 use Rattle.simulation.proofs.UnwindLaws.{unwinds}
 use Rattle.simulation.proofs.PushLaws as Pushing
-use Rattle.simulation_calls.proofs.OutsideLaws as Asking
+use Rattle.simulation_steps.proofs.OutsideLaws as Asking
 use Rattle.simulation_steps.proofs.EnterLaws as Entering
+use Rattle.simulation_steps.proofs.DelegateLaws as Delegating
+use Rattle.simulation_objects.proofs.RefLaws.{refs_there}
 
 -- what of a member its being core goes by
 abbrev core_as : Ty → Name → Name → List Ty → Bool → CoreMember
@@ -99,7 +105,7 @@ module _ (p : Program) (k : Contracts) (ms : List MethodDesc) (g : AddedNumbers)
   abbrev member_as : ℕ → Name → List Ty → Ty → Option Value → Member
   member_as m name params result default = record { number = m; name = name; params = params; result = result; default = default }
 
-  member_same : (owner : Ty) (m : ℕ) (args : List Ty) → member_of p' owner m args ≡ member_of p owner m args
+  pub member_same : (owner : Ty) (m : ℕ) (args : List Ty) → member_of p' owner m args ≡ member_of p owner m args
   member_same owner m args =
       ap (λ n. member_as m (member_name (ty_name p owner) n) (param_types p' owner m args) (under (args_of owner) args (method_of p' m).result) (default_reply p' (under (args_of owner) args (method_of p' m).result))) ((r.same_methods m).name)
       ∙ ap (λ ts. member_as m (member_name (ty_name p owner) (method_of p m).name) ts (under (args_of owner) args (method_of p' m).result) (default_reply p' (under (args_of owner) args (method_of p' m).result))) (Entering.params_same p k ms g r owner m args)
@@ -139,13 +145,13 @@ module _ (p : Program) (k : Contracts) (ms : List MethodDesc) (g : AddedNumbers)
   on_answers n c d (Unfit w) (Returned v' gs' w') deep count z = absurd z
   on_answers n c d (Unfit w) (Threw x' gs' w') deep count z = absurd z
 
-  pub calls_outside : (owner : Ty) (m : ℕ) (args : List Ty) (values : List Value) (fs fs' : List Frame) (w : World) (ss : List Statics) → Sites.CallSite p k ms g r fs fs' w ss → Sites.WellFormedFor p k ms g r owner m args values → To (2 * cst + lay (length fs)) (outside_call p k owner m args values fs w) (outside_call p' no_contracts owner m args values fs' (beside ss w))
+  pub calls_outside : (owner : Ty) (m : ℕ) (args : List Ty) (values : List Value) (fs fs' : List Frame) (w : World) (ss : List Statics) → Sites.CallSite p k ms g r fs fs' w ss → WellFormedValues (Pairs.bounds p k ms g r) values → To (2 * cst + lay (length fs)) (outside_call p k owner m args values fs w) (outside_call p' no_contracts owner m args values fs' (beside ss w))
   calls_outside owner m args values fs fs' w ss z fine =
       subst (λ x. To (2 * cst + lay (length fs)) (outside_call p k owner m args values fs w) (on_answer p' no_contracts (ask p' x values fs' (beside ss w)))) (sym (called_member owner m args values))
-      (on_answers (length fs) (count_groups fs) w.depth _ _ z.deep z.count (Asking.asks p k ms g r Push Push (with_default p owner m values (member_of p owner m args)) values fs fs' w ss z.under z.others z.alike fine))
+      (on_answers (length fs) (count_groups fs) w.depth _ _ z.deep z.count (Asking.asks p k ms g r Push Push (with_default p owner m values (member_of p owner m args)) values fs fs' w ss z.under z.others z.alike (refs_there p k ms g r (with_default p owner m values (member_of p owner m args)).params values fine)))
 
   -- a member outside, or a method with a body
-  pub calls_plainly : (owner : Ty) (m : ℕ) (args : List Ty) (values : List Value) (fs fs' : List Frame) (w : World) (ss : List Statics) → m < r.methods → IsTrue (is_below r.types owner) → Sites.CallSite p k ms g r fs fs' w ss → Sites.WellFormedFor p k ms g r owner m args values → To (2 * cst + lay (suc (suc (length fs)))) (plain_call p k owner m args values fs w) (plain_call p' no_contracts owner m args values fs' (beside ss w))
+  pub calls_plainly : (owner : Ty) (m : ℕ) (args : List Ty) (values : List Value) (fs fs' : List Frame) (w : World) (ss : List Statics) → m < r.methods → IsTrue (is_below r.types owner) → Sites.CallSite p k ms g r fs fs' w ss → WellFormedValues (Pairs.bounds p k ms g r) values → To (2 * cst + lay (suc (suc (length fs)))) (plain_call p k owner m args values fs w) (plain_call p' no_contracts owner m args values fs' (beside ss w))
   calls_plainly owner m args values fs fs' w ss old a z fine =
       subst (λ t. To (2 * cst + lay (suc (suc (length fs)))) (plain_call p k owner m args values fs w) (if t then outside_call p' no_contracts owner m args values fs' (beside ss w) else if is_some (method_of p' m).body then enter p' no_contracts owner m args values Push fs' (beside ss w) else stuck (beside ss w))) (sym (outside_same m))
       (subst (λ t. To (2 * cst + lay (suc (suc (length fs)))) (plain_call p k owner m args values fs w) (if is_outside p m then outside_call p' no_contracts owner m args values fs' (beside ss w) else if t then enter p' no_contracts owner m args values Push fs' (beside ss w) else stuck (beside ss w))) (sym ((r.same_methods m).has_body))
@@ -153,7 +159,7 @@ module _ (p : Program) (k : Contracts) (ms : List MethodDesc) (g : AddedNumbers)
     where
       by_tests : (s t : Bool) → To (2 * cst + lay (suc (suc (length fs)))) (if s then outside_call p k owner m args values fs w else if t then enter p k owner m args values Push fs w else stuck w) (if s then outside_call p' no_contracts owner m args values fs' (beside ss w) else if t then enter p' no_contracts owner m args values Push fs' (beside ss w) else stuck (beside ss w))
       by_tests true t = Unwinding.reach_within p k ms g r (2 * cst + lay (length fs)) _ _ _ (omega arith) (calls_outside owner m args values fs fs' w ss z fine)
-      by_tests false true = Entering.enters p k ms g r owner m args values Push Push fs fs' w ss old a z.under refl refl z.others z.alike z.deep z.count
+      by_tests false true = Unwinding.reach_within p k ms g r (cst + lay (suc (suc (length fs)))) _ _ _ (omega arith) (Entering.enters p k ms g r owner m args values Push Push fs fs' w ss old a z.under refl refl z.others z.alike z.deep z.count)
       by_tests false false = Arriving.stuck_both p k ms g r _ w ss z.alike
 
   -- ---- core members
@@ -161,14 +167,14 @@ module _ (p : Program) (k : Contracts) (ms : List MethodDesc) (g : AddedNumbers)
   abbrev big : ℕ → ℕ
   big n = 2 * cst + lay (suc (suc n))
 
-  pushes_here : (v : Option Value) (fs fs' : List Frame) (w : World) (ss : List Statics) → Sites.CallSite p k ms g r fs fs' w ss → To (big (length fs)) (push_below p k v fs w) (push_below p' no_contracts v fs' (beside ss w))
+  pub pushes_here : (v : Option Value) (fs fs' : List Frame) (w : World) (ss : List Statics) → Sites.CallSite p k ms g r fs fs' w ss → To (big (length fs)) (push_below p k v fs w) (push_below p' no_contracts v fs' (beside ss w))
   pushes_here v fs fs' w ss z = Unwinding.reach_within p k ms g r (cst + lay (length fs)) _ _ _ (omega arith) (Pushing.pushes p k ms g r Push Push v fs fs' w ss tt z.under z.others z.alike z.deep)
 
   pushes_if : (o : Option Value) (fs fs' : List Frame) (w : World) (ss : List Statics) → Sites.CallSite p k ms g r fs fs' w ss → To (big (length fs)) (if_there o w (λ v. push_below p k (Some v) fs w)) (if_there o (beside ss w) (λ v. push_below p' no_contracts (Some v) fs' (beside ss w)))
   pushes_if None fs fs' w ss z = Arriving.stuck_both p k ms g r _ w ss z.alike
   pushes_if (Some v) fs fs' w ss z = pushes_here (Some v) fs fs' w ss z
 
-  raises_here : (name : Name) (fs fs' : List Frame) (w : World) (ss : List Statics) → Sites.CallSite p k ms g r fs fs' w ss → To (big (length fs)) (raise p k name fs w) (raise p' no_contracts name fs' (beside ss w))
+  pub raises_here : (name : Name) (fs fs' : List Frame) (w : World) (ss : List Statics) → Sites.CallSite p k ms g r fs fs' w ss → To (big (length fs)) (raise p k name fs w) (raise p' no_contracts name fs' (beside ss w))
   unfolding storage
   raises_here name fs fs' w ss z =
       Unwinding.reach_within p k ms g r (2 * cst + lay (length fs)) _ _ _ (omega arith)
@@ -179,41 +185,35 @@ module _ (p : Program) (k : Contracts) (ms : List MethodDesc) (g : AddedNumbers)
   counts_so (SomeText a) fs fs' w ss z = pushes_here _ fs fs' w ss z
   counts_so NotText fs fs' w ss z = Arriving.stuck_both p k ms g r _ w ss z.alike
 
-  calls_core : (c : CoreMember) (owner : Ty) (m : ℕ) (args : List Ty) (values : List Value) (fs fs' : List Frame) (w : World) (ss : List Statics) → m < r.methods → IsTrue (is_below r.types owner) → Sites.CallSite p k ms g r fs fs' w ss → Sites.WellFormedFor p k ms g r owner m args values → Sites.QuantifiesOn p k ms g r c owner m args values fs fs' w ss → To (big (length fs)) (call_core p k c owner m args values fs w) (call_core p' no_contracts c owner m args values fs' (beside ss w))
-  calls_core Constructor owner m args values fs fs' w ss old a z fine q = pushes_here None fs fs' w ss z
-  calls_core (Equality b) owner m args values fs fs' w ss old a z fine q = pushes_if (string_answer (Equality b) values) fs fs' w ss z
-  calls_core Concatenation owner m args values fs fs' w ss old a z fine q = pushes_if (string_answer Concatenation values) fs fs' w ss z
-  calls_core TextLength owner m args values fs fs' w ss old a z fine q = counts_so (first_texted values) fs fs' w ss z
-  calls_core IsNullOrEmpty owner m args values fs fs' w ss old a z fine q = pushes_if (string_answer IsNullOrEmpty values) fs fs' w ss z
-  calls_core (Quantifier e) owner m args values fs fs' w ss old a z fine q = q
-  calls_core NotCore owner m args values fs fs' w ss old a z fine q = calls_plainly owner m args values fs fs' w ss old a z fine
+  tries : (e : Bool) (target : Value) (o : Option (Value × Remaining)) (fs fs' : List Frame) (w : World) (ss : List Statics) → Sites.CallSite p k ms g r fs fs' w ss → To (big (length fs)) (try_next p k e target o fs w) (try_next p' no_contracts e target o fs' (beside ss w))
+  tries e target o fs fs' w ss z = Unwinding.reach_within p k ms g r (cst + lay (suc (suc (length fs)))) _ _ _ (omega arith) (Delegating.tries_next p k ms g r e target o Push fs fs' w ss tt z.under z.others z.heap z.alike z.deep z.count)
+
+  quantifies : (e : Bool) (values : List Value) (fs fs' : List Frame) (w : World) (ss : List Statics) → Sites.CallSite p k ms g r fs fs' w ss → (x x' : Next) → To (big (length fs)) x x' → To (big (length fs)) (quantify p k e values fs w x) (quantify p' no_contracts e values fs' (beside ss w) x')
+  quantifies e [] fs fs' w ss z x x' other = Arriving.stuck_both p k ms g r _ w ss z.alike
+  quantifies e (a ∷ []) fs fs' w ss z x x' other = Arriving.stuck_both p k ms g r _ w ss z.alike
+  quantifies e (items ∷ target ∷ []) fs fs' w ss z x x' other = by_array (array_in w (out-Value items))
+    where
+      by_array : (o : Option ℕ) → To (big (length fs)) (maybe x (λ y. try_next p k e target (next_try w (Elements y 0)) fs w) o) (maybe x' (λ y. try_next p' no_contracts e target (next_try w (Elements y 0)) fs' (beside ss w)) o)
+      by_array None = other
+      by_array (Some y) = tries e target (next_try w (Elements y 0)) fs fs' w ss z
+  quantifies e (from ∷ to ∷ target ∷ []) fs fs' w ss z x x' other = by_range (option_and_then (λ a. option_map (λ b. Range a b) (number_in (out-Value to))) (number_in (out-Value from)))
+    where
+      by_range : (o : Option Remaining) → To (big (length fs)) (if_there o w (λ left. try_next p k e target (next_try w left) fs w)) (if_there o (beside ss w) (λ left. try_next p' no_contracts e target (next_try w left) fs' (beside ss w)))
+      by_range None = Arriving.stuck_both p k ms g r _ w ss z.alike
+      by_range (Some left) = tries e target (next_try w left) fs fs' w ss z
+  quantifies e (a ∷ b ∷ c ∷ d ∷ more) fs fs' w ss z x x' other = Arriving.stuck_both p k ms g r _ w ss z.alike
+
+  pub calls_core : (c : CoreMember) (owner : Ty) (m : ℕ) (args : List Ty) (values : List Value) (fs fs' : List Frame) (w : World) (ss : List Statics) → m < r.methods → IsTrue (is_below r.types owner) → Sites.CallSite p k ms g r fs fs' w ss → WellFormedValues (Pairs.bounds p k ms g r) values → To (big (length fs)) (call_core p k c owner m args values fs w) (call_core p' no_contracts c owner m args values fs' (beside ss w))
+  calls_core Constructor owner m args values fs fs' w ss old a z fine = pushes_here None fs fs' w ss z
+  calls_core (Equality b) owner m args values fs fs' w ss old a z fine = pushes_if (string_answer (Equality b) values) fs fs' w ss z
+  calls_core Concatenation owner m args values fs fs' w ss old a z fine = pushes_if (string_answer Concatenation values) fs fs' w ss z
+  calls_core TextLength owner m args values fs fs' w ss old a z fine = counts_so (first_texted values) fs fs' w ss z
+  calls_core IsNullOrEmpty owner m args values fs fs' w ss old a z fine = pushes_if (string_answer IsNullOrEmpty values) fs fs' w ss z
+  calls_core (Quantifier e) owner m args values fs fs' w ss old a z fine = quantifies e values fs fs' w ss z _ _ (calls_plainly owner m args values fs fs' w ss old a z fine)
+  calls_core NotCore owner m args values fs fs' w ss old a z fine = calls_plainly owner m args values fs fs' w ss old a z fine
 
   -- a call of the member that a token names
-  pub calls_member : (owner : Ty) (m : ℕ) (args : List Ty) (values : List Value) (fs fs' : List Frame) (w : World) (ss : List Statics) → m < r.methods → IsTrue (is_below r.types owner) → Sites.CallSite p k ms g r fs fs' w ss → Sites.WellFormedFor p k ms g r owner m args values → Sites.QuantifiesOn p k ms g r (core_of p owner m) owner m args values fs fs' w ss → To (big (length fs)) (call_member p k owner m args values fs w) (call_member p' no_contracts owner m args values fs' (beside ss w))
+  pub calls_member : (owner : Ty) (m : ℕ) (args : List Ty) (values : List Value) (fs fs' : List Frame) (w : World) (ss : List Statics) → m < r.methods → IsTrue (is_below r.types owner) → WellFormedValues (Pairs.bounds p k ms g r) values → Sites.CallSite p k ms g r fs fs' w ss → To (big (length fs)) (call_member p k owner m args values fs w) (call_member p' no_contracts owner m args values fs' (beside ss w))
   unfolding call_member
-  calls_member owner m args values fs fs' w ss old a z fine q =
-      subst (λ c. To (big (length fs)) (call_core p k (core_of p owner m) owner m args values fs w) (call_core p' no_contracts c owner m args values fs' (beside ss w))) (sym (core_same owner m)) (calls_core (core_of p owner m) owner m args values fs fs' w ss old a z fine q)
-
-  -- ---- the exception of Requires<E>, of the set
-
-  new_fields : (t : Ty) → Rattle.cil_semantics.specs.Places.default_cells p' (map (λ (x : ℕ × Ty). x.1) (Rattle.cil_semantics.specs.Places.layout p' t)) ≡ Rattle.cil_semantics.specs.Places.default_cells p (map (λ (x : ℕ × Ty). x.1) (Rattle.cil_semantics.specs.Places.layout p t))
-  new_fields t =
-      ap (λ xs. Rattle.cil_semantics.specs.Places.default_cells p' (map (λ (x : ℕ × Ty). x.1) xs)) (Rattle.simulation.proofs.ProgramLaws.layout_same p ms t)
-      ∙ Rattle.simulation.proofs.ProgramLaws.default_cells_same p ms (map (λ (x : ℕ × Ty). x.1) (Rattle.cil_semantics.specs.Places.layout p t))
-
-  abbrev made_world : Program → Ty → List Cell → World → World
-  made_world q t cells w = state.with_object q (record { ty = t; cells = cells }) w
-
-  -- The constructor's frame throws in the first run when it returns; in the plain run it pushes the object, which the next instruction throws.
-  pub makes_own_exception : (t : Ty) (m : ℕ) (values : List Value) (fs fs' : List Frame) (w : World) (ss : List Statics) → m < r.methods → IsTrue (is_below r.types t) → Rattle.cil_semantics.specs.Places.is_reference (storage p t) ≡ true → below (Rattle.cil_semantics.specs.declared.state.Continuation.TheVariants.ThrowObject (state.next_object w)) (Rattle.cil_semantics.specs.declared.state.Continuation.TheVariants.PushObject (Obj (state.next_object w))) fs fs' → valid fs → IsBeside w ss → w.depth ≤ suc k.settings.guard → w.depth ≡ count_groups fs
-      → To (big (length fs)) (Rattle.cil_semantics.specs.Calls.make_own p k (Rattle.cil_semantics.specs.Checks.throws_new p k) t m values fs w) (Rattle.cil_semantics.specs.Calls.make_own p' no_contracts (Rattle.cil_semantics.specs.Calls.pushes_new p' no_contracts) t m values fs' (beside ss w))
-  unfolding Rattle.cil_model.specs.declared.value.Value.out-Value denote.Hole.Carrier.out
-  makes_own_exception t m values fs fs' w ss old a ref under ok bes deep count =
-      let cells = Rattle.cil_semantics.specs.Places.default_cells p (map (λ (x : ℕ × Ty). x.1) (Rattle.cil_semantics.specs.Places.layout p t)) in
-      let x = state.next_object w in
-      let e = Entering.enters p k ms g r t m [] (Obj x ∷ values) (Rattle.cil_semantics.specs.declared.state.Continuation.TheVariants.ThrowObject x) (Rattle.cil_semantics.specs.declared.state.Continuation.TheVariants.PushObject (Obj x)) fs fs' (made_world p t cells w) ss old a under refl refl ok (record { statics = bes.statics; depth = bes.depth; bare = bes.bare }) deep count in
-      subst (λ b. To (big (length fs)) (if b then enter p k t m [] (Obj x ∷ values) (Rattle.cil_semantics.specs.declared.state.Continuation.TheVariants.ThrowObject x) fs (made_world p t cells w) else Rattle.cil_semantics.specs.Frames.enter_struct p k t m [] values fs w) (Rattle.cil_semantics.specs.Calls.make_own p' no_contracts (Rattle.cil_semantics.specs.Calls.pushes_new p' no_contracts) t m values fs' (beside ss w))) (sym ref)
-      (subst (λ h. To (big (length fs)) (enter p k t m [] (Obj x ∷ values) (Rattle.cil_semantics.specs.declared.state.Continuation.TheVariants.ThrowObject x) fs (made_world p t cells w)) (if Rattle.cil_semantics.specs.Places.is_reference h then enter p' no_contracts t m [] (Obj x ∷ values) (Rattle.cil_semantics.specs.declared.state.Continuation.TheVariants.PushObject (Obj x)) fs' (made_world p' t (Rattle.cil_semantics.specs.Places.default_cells p' (map (λ (y : ℕ × Ty). y.1) (Rattle.cil_semantics.specs.Places.layout p' t))) (beside ss w)) else Rattle.cil_semantics.specs.Frames.enter_struct p' no_contracts t m [] values fs' (beside ss w))) (sym (storage_same p ms t))
-      (subst (λ b. To (big (length fs)) (enter p k t m [] (Obj x ∷ values) (Rattle.cil_semantics.specs.declared.state.Continuation.TheVariants.ThrowObject x) fs (made_world p t cells w)) (if b then enter p' no_contracts t m [] (Obj x ∷ values) (Rattle.cil_semantics.specs.declared.state.Continuation.TheVariants.PushObject (Obj x)) fs' (made_world p' t (Rattle.cil_semantics.specs.Places.default_cells p' (map (λ (y : ℕ × Ty). y.1) (Rattle.cil_semantics.specs.Places.layout p' t))) (beside ss w)) else Rattle.cil_semantics.specs.Frames.enter_struct p' no_contracts t m [] values fs' (beside ss w))) (sym ref)
-      (subst (λ cs. To (big (length fs)) (enter p k t m [] (Obj x ∷ values) (Rattle.cil_semantics.specs.declared.state.Continuation.TheVariants.ThrowObject x) fs (made_world p t cells w)) (enter p' no_contracts t m [] (Obj x ∷ values) (Rattle.cil_semantics.specs.declared.state.Continuation.TheVariants.PushObject (Obj x)) fs' (made_world p' t cs (beside ss w)))) (sym (new_fields t))
-      (subst (λ v. To (big (length fs)) (enter p k t m [] (Obj x ∷ values) (Rattle.cil_semantics.specs.declared.state.Continuation.TheVariants.ThrowObject x) fs (made_world p t cells w)) (enter p' no_contracts t m [] (Obj x ∷ values) (Rattle.cil_semantics.specs.declared.state.Continuation.TheVariants.PushObject (Obj x)) fs' v)) (sym (with_object_same p ms (record { ty = t; cells = cells }) (beside ss w))) e))))
+  calls_member owner m args values fs fs' w ss old a fine z =
+      subst (λ c. To (big (length fs)) (call_core p k (core_of p owner m) owner m args values fs w) (call_core p' no_contracts c owner m args values fs' (beside ss w))) (sym (core_same owner m)) (calls_core (core_of p owner m) owner m args values fs fs' w ss old a z fine)
