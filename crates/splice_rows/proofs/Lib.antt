@@ -1,3 +1,4 @@
 pub mod OneRequiresCode
 pub mod OneRequiresLaws
+mod FoundLaws
 mod WholeLaws

@@ -4,6 +4,8 @@ use Rattle.std.specs.Prelude.{slice_get, nat_lt, find, IsTrue, pos, option_map, 
 use Rattle.cil_model.specs.declared.ty.Ty.{Ty, out-Ty, Prim}
 use Rattle.cil_model.specs.declared.value.Value.{Value, I4, I8, Native}
 use Rattle.cil_model.specs.declared.body.Instr.{Instr}
+use Rattle.cil_model.specs.declared.program.MethodDesc.{MethodDesc}
+use Rattle.cil_model.specs.declared.program.TypeDesc.{TypeDesc}
 use Rattle.cil_model.specs.declared.contract.ClauseKind.{ClauseKind}
 use Rattle.il_opcodes.specs.Opcodes.{class_of}
 use Rattle.il_opcodes.specs.declared.class.Class.TheVariants as class
@@ -26,7 +28,8 @@ use Rattle.cil_semantics.specs.declared.number.Pair.TheVariants.{Both4, Both8, B
 use Rattle.cil_semantics.specs.Contracted.{effective_of}
 use Rattle.cil_semantics.specs.Frames.{Initializer, initializer, initializer_state, is_initializer, ToRun}
 use Rattle.cil_semantics.specs.Instructions.{act}
-use Rattle.cil_semantics.specs.Lookups.{in_set, type_of, method_of}
+use Rattle.cil_semantics.specs.Dispatch.{is_virtual, is_interface_kind, is_interface_at, is_interface}
+use Rattle.cil_semantics.specs.Lookups.{contract_exception, no_method, in_set, type_of, method_of}
 use Rattle.cil_semantics.specs.Numbers as number
 use Rattle.cil_semantics.specs.Places.{Truncated, storage, stored_in}
 use Rattle.cil_semantics.specs.Numbers.{B32}
@@ -42,6 +45,7 @@ use Rattle.splice_facts.specs.Related.{Rewritten}
 use Rattle.splice_facts.specs.Spliced.{Spliced}
 use Rattle.machine_laws.specs.Answers.{is_below}
 use Rattle.splice_rows.specs.OneRequires.{contracts, the_plan, input, output, numbers, written_methods, heights_here, marks_of, Meets}
+use Rattle.splice_rows.proofs.FoundLaws.{OverridesNothing, each_at, found_below}
 use Rattle.splice_rows.proofs.OneRequiresCode.{depths, helpers, code, never_called}
 use Rattle.splice_rows.proofs.OneRequiresLaws.{each, not_check, not_check_too, only, facts, spliced}
 
@@ -224,7 +228,7 @@ no_contract (suc (suc m)) l = either (method_of input (suc (suc m))).outside (Ra
     either false true = refl
     either false false = refl
 
-alike : (d : Rattle.cil_model.specs.declared.program.MethodDesc.MethodDesc) → ButBody d d
+alike : (d : MethodDesc) → ButBody d d
 alike d = record { assembly = refl; owner = refl; name = refl; params = refl; result = refl; sig = refl; is_static = refl; flags = refl; outside = refl; generics = refl; has_body = refl }
 
 same : SameMethods input written_methods
@@ -254,6 +258,35 @@ owned : (t : Ty) (w : World) (m : ℕ) → IsTrue (is_below 2 t) → initializer
 unfolding initializer
 owned t w m b e = absurd (never_runs _ m (sym (ap (initializer_state _) (no_initializer (in_set (out-Ty t)) b)) ∙ e))
 
+-- ---- no type is an interface or has rows, and no method is virtual
+
+abbrev IsClass : TypeDesc → Type 0
+IsClass d = (is_interface_kind d.kind ≡ false) × (d.impls ≡ [])
+
+are_classes : (k : ℕ) → IsClass (type_of input k)
+unfolding everything
+are_classes k = each_at IsClass input.types contract_exception ((refl, refl), ((refl, refl), ((refl, refl), ((refl, refl), ((refl, refl), ((refl, refl), tt)))))) (refl, refl) k
+
+no_virtual : (m : ℕ) → is_virtual (method_of input m) ≡ false
+unfolding everything
+no_virtual m = each_at (λ (d : MethodDesc). is_virtual d ≡ false) input.methods no_method (refl, (refl, (refl, (refl, (refl, (refl, (refl, (refl, (refl, tt))))))))) refl m
+
+no_interface : (t : Ty) → is_interface input t ≡ false
+unfolding everything
+no_interface t = by_number (in_set (out-Ty t))
+  where
+    by_number : (o : Option (ℕ × List Ty)) → is_interface_at input t o ≡ false
+    by_number None = refl
+    by_number (Some d) = (are_classes d.0).0
+
+overrides_nothing : OverridesNothing input
+overrides_nothing = record { interfaces = no_interface; rows = λ k. (are_classes k).1; virtual = no_virtual }
+
+members : (m : ℕ) → m < 2 → (method_of input m).owner < 2
+members zero l = let e : 0 < 2 = omega arith in e
+members (suc zero) l = let e : 1 < 2 = omega arith in e
+members (suc (suc m)) l = absurd (omega (arith, l))
+
 pub whole : Rewritten input contracts written_methods numbers
 unfolding everything
 whole =
@@ -269,6 +302,8 @@ whole =
       appended = no_contract;
       guard = let e : 4 ≤ 100 = omega arith in e;
       owned = owned;
+      members = members;
+      found = λ t s x l old e. found_below input 2 2 overrides_nothing members t s x l e;
     }
 
 pub meets : Meets
