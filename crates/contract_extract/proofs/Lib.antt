@@ -1,2 +1,3 @@
-pub mod LookupLaws
+pub mod ExceptionLaws
+pub mod NumberLaws
 pub mod TestLaws

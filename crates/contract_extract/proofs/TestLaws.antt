@@ -1,10 +1,8 @@
 -- The first refusal, place by place.
 use Rattle.std.proofs.Common.{◌≡◌, ℕ, suc, ◌+◌, ◌<◌, Bool, true, false, List, [], ◌∷◌, ◌++◌, length, get_or, drop, refl, sym, ap, ◌∙◌, arith, cond}
-use Rattle.std.specs.Prelude.{Option, Some, None, map, is_some}
+use Rattle.std.specs.Prelude.{Option, Some, None, is_some}
 use Rattle.std.specs.List.{enumerate_from, flat_map}
 use Rattle.std.proofs.Math.Seq.{drop-cons}
-use Rattle.std.proofs.lemmas.List.{length-map, get_or-map}
-use Rattle.std.proofs.lemmas.List.FromFn.{length-enumerate_from, get_or-enumerate_from}
 use Rattle.cil_base.specs.declared.refusal.Refusal.{Refusal}
 use Rattle.cil_base.specs.Refusals.{Test, first_of}
 use Rattle.cil_semantics.specs.Words.{or_else}
@@ -25,17 +23,6 @@ or_else-some (Some r) rest h = refl
 pub or_else-none : (o rest : Option Refusal) → is_some o ≡ false → or_else o rest ≡ rest
 or_else-none None rest h = refl
 or_else-none (Some r) rest h = absurd (cc)
-
--- what is told of each instruction with its place
-pub told_at : {X : Type 0} (f : ℕ × Instr → X) (is : List Instr) (k : ℕ) (i : Instr) (d : X) → k < length is → i ≡ get_or is k i → get_or (map f (enumerate_from 0 is)) k d ≡ f (k, i)
-told_at {X} f is k i d h e =
-    let zero_at : 0 + k ≡ k = omega arith in
-    get_or-map f (enumerate_from 0 is) k (0, i) d (omega (arith, length-enumerate_from 0 is))
-    ∙ ap f (get_or-enumerate_from 0 is k (0, i) h)
-    ∙ ap (λ (n : ℕ). f (n, get_or is k i)) zero_at ∙ ap (λ (j : Instr). f (k, j)) (sym e)
-
-pub length-told : {X : Type 0} (f : ℕ × Instr → X) (is : List Instr) → length (map f (enumerate_from 0 is)) ≡ length is
-length-told {X} f is = simp (length-map, length-enumerate_from)
 
 -- the tests of the places from one on
 pub first-drop : (f : ℕ × Instr → List Test) (is : List Instr) (k : ℕ) (i : Instr) → k < length is → i ≡ get_or is k i

@@ -1,7 +1,4 @@
-pub mod Flow
-pub mod CallKinds
-pub mod Parts
-pub mod Closures
 pub mod Clauses
+pub mod Exceptions
 pub mod OwnContract
 pub mod Rules

@@ -1,5 +1,5 @@
 -- The rules on contract blocks, each at its place (Code Contracts User Manual, section 2; closed ranges and the lead-in are this project's own).
-use Rattle.std.specs.Prelude.{ℕ, ◌+◌, ◌/◌, ◌%◌, bytes_eq, Bool, true, false, ◌&&◌, ◌||◌, ◌==◌, not, nat_lt, nat_le, List, [], ◌∷◌, filter, map, get_or, slice_get, length, find, is_some, Option, Some, None, option_and_then, codes, if◌then◌else◌}
+use Rattle.std.specs.Prelude.{ℕ, ◌+◌, Bool, true, false, ◌&&◌, ◌||◌, ◌==◌, not, nat_lt, nat_le, List, [], ◌∷◌, filter, map, get_or, slice_get, length, find, Option, Some, None, option_and_then, if◌then◌else◌}
 use Rattle.std.specs.List.{list_any, flat_map, slice_range}
 use Rattle.cil_base.specs.declared.refusal.Place.{Place}
 use Rattle.cil_base.specs.declared.refusal.Refusal.{Refusal}
@@ -10,26 +10,25 @@ use Rattle.cil_model.specs.declared.body.Instr.{Instr}
 use Rattle.cil_model.specs.declared.body.Region.{Region}
 use Rattle.cil_model.specs.declared.contract.ClauseKind.{ClauseKind}
 use Rattle.cil_model.specs.declared.contract.ClauseKind.TheVariants as kind
-use Rattle.cil_model.specs.declared.ty.Ty.{Ty, out-Ty}
-use Rattle.cil_model.specs.declared.ty.Ty.TheOpen.{Ty-F}
+use Rattle.cil_model.specs.declared.ty.Ty.{Ty}
 use Rattle.cil_model.specs.declared.program.Program.{Program}
 use Rattle.cil_model.specs.declared.program.Meaning.{Meaning}
 use Rattle.cil_model.specs.declared.program.Meaning.TheVariants.{OfMethod}
 use Rattle.cil_semantics.specs.Words.{maybe}
-use Rattle.cil_semantics.specs.Core.{class_named, string_ty, core_classes}
-use Rattle.cil_semantics.specs.Lookups.{type_of, method_of, in_set, is_sub}
-use Rattle.cil_semantics.specs.Checks.{constructor_with}
+use Rattle.cil_semantics.specs.Lookups.{type_of, method_of}
 use Rattle.cil_semantics.specs.Unwind.{holds_place}
 use Rattle.cil_semantics.specs.declared.contract_call.ContractCall.{ContractCall}
-use Rattle.contract_extract.specs.declared.segment.Segment.{Segment}
+use Rattle.contract_parts.specs.declared.segment.Segment.{Segment}
 use Rattle.cil_semantics.specs.Tokens.{own_meaning}
-use Rattle.contract_extract.specs.Flow.{Code, placed, targets, has_result, height_behind, last_argument}
+use Rattle.il_flow.specs.Successors.{targets}
+use Rattle.contract_parts.specs.Flow.{Code, placed, has_result, height_behind, last_argument}
 use Rattle.cil_semantics.specs.ContractCalls.{contract_call}
-use Rattle.contract_extract.specs.CallKinds.{ends_block, is_prefix, is_result, is_old, is_of_postcondition, ended_kind}
-use Rattle.contract_extract.specs.Parts.{is_nop, written, segments, segment_code, segment_instrs, lead_end, rest_from, is_in, is_throw, read, stored, named, is_it}
-use Rattle.contract_extract.specs.Closures.{is_closure}
+use Rattle.contract_parts.specs.CallKinds.{ends_block, is_prefix, is_result, is_old, is_of_postcondition, ended_kind}
+use Rattle.contract_parts.specs.Parts.{is_nop, written, segments, segment_code, segment_instrs, lead_end, rest_from, is_in, is_throw, read, stored, named, is_it}
+use Rattle.contract_parts.specs.Closures.{is_closure}
 use Rattle.contract_extract.specs.Clauses.{has_exception}
 use Rattle.contract_extract.specs.OwnContract.{ended_at}
+use Rattle.contract_extract.specs.Exceptions.{is_wrong_type}
 
 -- ---- segments
 
@@ -61,7 +60,7 @@ is_generated p m = (method_of p m).generated || (type_of p (method_of p m).owner
 abbrev pub breaks_1 : Code → ℕ × Instr → Bool
 breaks_1 c x =
     is_prefix (contract_call c.program x.1)
-    && (list_any (has_place x.0) c.regions || (list_any (crosses x.0) (placed c) || is_generated c.program c.method))
+    && (list_any (has_place x.0) c.body.regions || (list_any (crosses x.0) (placed c) || is_generated c.program c.method))
 
 -- ---- C2: at its beginning, a segment whose prefix call no path reaches or leaves values on the stack, which holds a part of a region or a ret, or whose code would be dropped
 
@@ -76,16 +75,16 @@ leaves_none c at None = false
 leaves_none c at (Some i) = height_behind c (at, i) == 0
 
 abbrev pub is_left_empty : Code → Segment → Bool
-is_left_empty c s = get_or c.reached s.at false && leaves_none c s.at (slice_get c.instrs s.at)
+is_left_empty c s = get_or c.reached s.at false && leaves_none c s.at (slice_get c.body.instrs s.at)
 
 -- EndContractBlock gives no clause: before it, its segment has nops alone
 abbrev pub drops_code : Code → Segment → Bool
 drops_code c s =
-    maybe false (λ i. ends_block (contract_call c.program i)) (slice_get c.instrs s.at) && list_any (λ i. not (is_nop i)) (slice_range c.instrs s.from s.at)
+    maybe false (λ i. ends_block (contract_call c.program i)) (slice_get c.body.instrs s.at) && list_any (λ i. not (is_nop i)) (slice_range c.body.instrs s.from s.at)
 
 abbrev pub segment_breaks_2 : Code → Segment → Bool
 segment_breaks_2 c s =
-    not (is_left_empty c s) || (list_any (meets s.from (s.at + 1)) c.regions || (list_any is_ret (segment_instrs c s) || drops_code c s))
+    not (is_left_empty c s) || (list_any (meets s.from (s.at + 1)) c.body.regions || (list_any is_ret (segment_instrs c s) || drops_code c s))
 
 abbrev pub breaks_2 : Code → ℕ × Instr → Bool
 breaks_2 c x = maybe false (segment_breaks_2 c) (segment_from c x.0)
@@ -130,7 +129,7 @@ outside_range c s from to = map (λ (x : ℕ × Instr). x.1) (filter (λ (x : �
 
 abbrev pub range_breaks_4 : Code → ℕ → ℕ → Segment → Bool
 range_breaks_4 c from to s =
-    list_any (λ i. isnt_of_entry (contract_call c.program i) || is_stored_by (outside_range c s from to) i) (slice_range c.instrs from to)
+    list_any (λ i. isnt_of_entry (contract_call c.program i) || is_stored_by (outside_range c s from to) i) (slice_range c.body.instrs from to)
 
 abbrev pub old_breaks_4 : Code → ℕ → Option ℕ → Bool
 old_breaks_4 c at None = true
@@ -148,16 +147,16 @@ breaks_5 c x = maybe false (λ s. list_any is_throw (segment_instrs c s)) (segme
 
 -- a call may store through the address of a local
 abbrev pub lead_writes : Code → ℕ → Bool
-lead_writes c k = list_any (λ i. is_it k (written i)) (slice_range c.instrs 0 (lead_end c))
+lead_writes c k = list_any (λ i. is_it k (written i)) (slice_range c.body.instrs 0 (lead_end c))
 
 abbrev pub block_writes : Code → ℕ → Bool
-block_writes c k = list_any (λ i. is_it k (written i)) (slice_range c.instrs (lead_end c) (rest_from c))
+block_writes c k = list_any (λ i. is_it k (written i)) (slice_range c.body.instrs (lead_end c) (rest_from c))
 
 abbrev pub lead_stores : Code → ℕ → Bool
-lead_stores c k = list_any (λ i. is_it k (stored i)) (slice_range c.instrs 0 (lead_end c))
+lead_stores c k = list_any (λ i. is_it k (stored i)) (slice_range c.body.instrs 0 (lead_end c))
 
 abbrev pub rest_stores : Code → ℕ → Bool
-rest_stores c k = list_any (λ i. is_it k (stored i)) (slice_range c.instrs (rest_from c) (length c.instrs))
+rest_stores c k = list_any (λ i. is_it k (stored i)) (slice_range c.body.instrs (rest_from c) (length c.body.instrs))
 
 abbrev pub is_in_block : Code → ℕ → Bool
 is_in_block c q = holds_place (lead_end c) (rest_from c) q
@@ -186,32 +185,6 @@ abbrev pub type_argument : Option Meaning → Option Ty
 type_argument (Some (OfMethod owner m args)) = slice_get args 0
 type_argument _ = None
 
--- an outside type of which only its name is known
-abbrev pub is_unknown_name : List ℕ → Bool
-is_unknown_name name =
-    not (bytes_eq name (codes "System.IDisposable") || list_any (λ (row : List ℕ × Ty). bytes_eq row.0 name) core_classes)
-
-abbrev pub is_unknown : Ty-F Ty → Bool
-is_unknown (Ty-F.Outside name value) = is_unknown_name name
-is_unknown _ = false
-
-abbrev pub is_exception : Program → Ty → Bool
-is_exception p t = is_sub p t (class_named (codes "System.Exception"))
-
--- abstract (ECMA-335, II.23.1.15), or without a constructor that the method's clause can name
-abbrev pub cant_be_made : Program → ℕ → Ty → Option (ℕ × List Ty) → Bool
-cant_be_made p home t None = false
-cant_be_made p home t (Some d) =
-    ((type_of p d.0).flags / 128 % 2 == 1) || not (is_some (constructor_with p t home (string_ty ∷ [])) || is_some (constructor_with p t home []))
-
-abbrev pub must_be_made : ClauseKind → Bool
-must_be_made kind.RequiresOf = true
-must_be_made _ = false
-
-abbrev pub is_wrong_type : Program → ℕ → ClauseKind → Ty → Bool
-is_wrong_type p home k t =
-    not (is_unknown (out-Ty t) || is_exception p t) || (must_be_made k && cant_be_made p home t (in_set (out-Ty t)))
-
 abbrev pub kind_breaks_7 : Code → Instr → ClauseKind → Bool
 kind_breaks_7 c i k = has_exception k && maybe true (is_wrong_type c.program c.method k) (type_argument (own_meaning c.program i.operand))
 
@@ -224,7 +197,7 @@ abbrev pub place_of : Program → ℕ → Place
 place_of p m = record { assembly = (method_of p m).assembly; table = 6; row = (method_of p m).row }
 
 abbrev pub test : Code → ℕ × Instr → Rule → Bool → Test
-test c x rule fails = record { refusal = refusal rule (place_of c.program c.method) (get_or c.offsets x.0 0); fails = fails }
+test c x rule fails = record { refusal = refusal rule (place_of c.program c.method) (get_or c.body.offsets x.0 0); fails = fails }
 
 abbrev pub tests_at : Code → ℕ × Instr → List Test
 tests_at c x =

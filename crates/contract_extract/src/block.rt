@@ -1,40 +1,33 @@
 // The contract block of a body: its parts, the ranges of its old values, and its closure locals.
 
-ghost use Rattle.std.specs.Prelude.{Some, ◌≡◌, ◌<◌, ◌^◌, ◌==◌, Bool, nat_lt, nat_le, slice_get, length, map, find, is_some, option_copied};
-ghost use Rattle.std.specs.List.{list_any, slice_range, range_with_len};
-ghost use Rattle.contract_extract.specs.Flow.{placed, last_argument, height_behind};
-ghost use Rattle.contract_extract.specs.Parts.{lead_end, rest_from, segments, is_it, index_of, index_if, stored, written, named, read};
-ghost use Rattle.contract_extract.specs.Closures.{is_closure, closure_numbers};
+ghost use Rattle.std.specs.Prelude.{◌≡◌, ◌<◌, ◌^◌, length, option_copied};
+ghost use Rattle.std.specs.List.{list_any};
+ghost use Rattle.contract_parts.specs.Flow.{last_argument};
+ghost use Rattle.contract_parts.specs.Parts.{lead_end, rest_from, segments, is_it, stored, written};
+ghost use Rattle.contract_parts.specs.Closures.{is_closure};
 ghost use Rattle.contract_extract.specs.Rules.{segment_at, segment_from, lead_writes, lead_stores, block_writes, rest_stores, is_in_block, read_breaks_6};
 
-use crate::code::Code;
-use crate::segment::{Segment, segment_at};
-use crate::slices::part;
-use cil_model::{Instr, Operand};
+use cil_model::Instr;
+use contract_parts::{Closures, Code, Segment, is_it, part, segment_at, stored, written};
 use std::marker::Model;
 
-/// The parts of a body: where its lead-in ends and its rest begins, its segments, where the last
-/// argument of a call at each place begins, the height of the stack behind each instruction, and its
-/// closure locals.
+/// The parts of a body: where its lead-in ends and its rest begins, its segments, and its closure
+/// locals.
 #[derive(Drop)]
 pub struct Block<'a> {
     pub(crate) code: &'a Code<'a>,
     pub(crate) lead: u32,
     pub(crate) rest: u32,
     pub(crate) segment_list: &'a [Segment],
-    pub(crate) arguments: &'a [Option<u32>],
-    pub(crate) behind: &'a [u32],
-    pub(crate) closures: &'a [u32],
+    pub(crate) closures: &'a Closures<'a>,
 }
 
 impl<'a> Model for Block<'a> {
-    ghost use Rattle.std.specs.Prelude.{◌≡◌, length, map};
-    ghost use Rattle.std.specs.List.{range_with_len};
+    ghost use Rattle.std.specs.Prelude.{◌≡◌};
     ghost use Rattle.std.specs.Coded.{codes};
     ghost use Rattle.cil_model.specs.contracts.ty.Ty as ty;
-    ghost use Rattle.contract_extract.specs.Flow.{Code, placed, last_argument, height_behind};
-    ghost use Rattle.contract_extract.specs.Parts.{lead_end, rest_from, segments};
-    ghost use Rattle.contract_extract.specs.Closures.{closure_numbers};
+    ghost use Rattle.contract_parts.specs.Flow.{Code};
+    ghost use Rattle.contract_parts.specs.Parts.{lead_end, rest_from, segments};
 
     ghost Value = { Code };
 
@@ -46,64 +39,7 @@ impl<'a> Model for Block<'a> {
         (b.lead ≡ lead_end b.code.now)
         × (b.rest ≡ rest_from b.code.now)
         × (b.segment_list.now ≡ segments b.code.now)
-        × (b.arguments.now ≡ map (last_argument b.code.now) (range_with_len 0 (length b.code.now.instrs)))
-        × (b.behind.now ≡ map (height_behind b.code.now) (placed b.code.now))
-        × (b.closures.now ≡ closure_numbers b.code.now) };
-}
-
-fn index_of(operand: &Operand) -> Option<u32>
-    ensures { result ≡ index_of operand.now }
-{
-    match operand {
-        Operand::Index(k) => Some(*k),
-        _ => None,
-    }
-}
-
-fn index_if(wanted: bool, operand: &Operand) -> Option<u32>
-    ensures { result ≡ index_if wanted operand.now }
-{
-    if wanted { index_of(operand) } else { None }
-}
-
-/// The local that an instruction stores.
-pub fn stored(instr: &Instr) -> Option<u32>
-    ensures { result ≡ stored instr.now }
-{
-    index_if(instr.op == 0xFE0E, &instr.operand)
-}
-
-/// The local whose value or address an instruction takes.
-pub fn read(instr: &Instr) -> Option<u32>
-    ensures { result ≡ read instr.now }
-{
-    index_if(instr.op == 0xFE0C || instr.op == 0xFE0D, &instr.operand)
-}
-
-/// The local that an instruction names.
-pub fn named(instr: &Instr) -> Option<u32>
-    ensures { result ≡ named instr.now }
-{
-    index_if(
-        instr.op == 0xFE0C || instr.op == 0xFE0E || instr.op == 0xFE0D,
-        &instr.operand,
-    )
-}
-
-pub fn is_it(k: u32, other: Option<u32>) -> bool
-    ensures { result ≡ is_it k other }
-{
-    match other {
-        Some(j) => j == k,
-        None => false,
-    }
-}
-
-/// The local that an instruction stores, or whose address it takes.
-fn written(instr: &Instr) -> Option<u32>
-    ensures { result ≡ written instr.now }
-{
-    index_if(instr.op == 0xFE0E || instr.op == 0xFE0D, &instr.operand)
+        × (b.closures.now ≡ b.code.now) };
 }
 
 /// Whether one of the instructions stores a local or takes its address.
@@ -126,16 +62,12 @@ impl<'a> Block<'a> {
         code: &'a Code<'a>,
         parts: (u32, u32),
         segment_list: &'a [Segment],
-        arguments: &'a [Option<u32>],
-        behind: &'a [u32],
-        closures: &'a [u32],
+        closures: &'a Closures<'a>,
     ) -> Block<'a>
         requires lead { parts.0 ≡ lead_end code.now }
         requires rest { parts.1 ≡ rest_from code.now }
         requires segments { segment_list.now ≡ segments code.now }
-        requires arguments { arguments.now ≡ map (last_argument code.now) (range_with_len 0 (length code.now.instrs)) }
-        requires behind { behind.now ≡ map (height_behind code.now) (placed code.now) }
-        requires closures { closures.now ≡ closure_numbers code.now }
+        requires closures { closures.now ≡ code.now }
         ensures { result ≡ code.entry.now }
     {
         let (lead, rest) = parts;
@@ -144,10 +76,48 @@ impl<'a> Block<'a> {
             lead,
             rest,
             segment_list,
-            arguments,
-            behind,
             closures,
         }
+    }
+
+    pub fn code(&self) -> &'a Code<'a>
+        ensures { result.now ≡ self.now }
+    {
+        self.code
+    }
+
+    /// Where the lead-in ends.
+    pub fn lead(&self) -> u32
+        ensures { result ≡ lead_end self.now }
+    {
+        self.lead
+    }
+
+    /// Where the rest begins.
+    pub fn rest(&self) -> u32
+        ensures { result ≡ rest_from self.now }
+    {
+        self.rest
+    }
+
+    pub fn segments(&self) -> &'a [Segment]
+        ensures { result.now ≡ segments self.now }
+    {
+        self.segment_list
+    }
+
+    pub fn closures(&self) -> &'a Closures<'a>
+        ensures { result.now ≡ self.now }
+    {
+        self.closures
+    }
+
+    pub fn instrs(&self) -> &'a [Instr]
+        ensures list { result.now ≡ self.now.body.instrs }
+        ensures few { length result.now < 2 ^ 31 }
+    {
+        let code = self.code;
+        code.instrs()
     }
 
     /// The segment in which a place lies.
@@ -214,22 +184,14 @@ impl<'a> Block<'a> {
     pub fn is_closure(&self, k: u32) -> bool
         ensures { result ≡ is_closure self.now k }
     {
-        self.closures.iter().any(|j| *j == k)
-    }
-
-    /// The instruction at a place leaves nothing on the stack.
-    pub fn leaves_none(&self, at: u32, instr: &Instr) -> bool
-        requires { slice_get self.now.instrs at ≡ Some instr.now }
-        ensures { result ≡ (height_behind self.now (at, instr.now) == 0) }
-    {
-        self.behind[at as usize] == 0
+        self.closures().is_closure(k)
     }
 
     /// Where the last argument of the call at a place begins.
-    pub fn last_argument(&self, at: u32) -> Option<u32>
-        requires { at < length self.now.instrs }
+    pub fn last_argument(&self, at: u32) -> Option<usize>
+        requires { at < length self.now.body.instrs }
         ensures { result ≡ last_argument self.now at }
     {
-        self.arguments[at as usize]
+        self.code().last_argument(at)
     }
 }

@@ -5,8 +5,8 @@ ghost use Rattle.cil_semantics.specs.ContractCalls.{has_message};
 ghost use Rattle.cil_semantics.specs.Lookups.{method_of};
 ghost use Rattle.contract_extract.specs.Clauses.{argument_type, has_exception, exception_of};
 
-use crate::call::own_meaning;
 use cil_model::{ClauseKind, Instr, Meaning, Operand, Program, TyRef};
+use contract_parts::{count_params, own_meaning};
 
 /// The type argument of a generic call.
 pub fn argument_type(operand: &Operand) -> Option<TyRef>
@@ -23,7 +23,7 @@ pub fn argument_type(operand: &Operand) -> Option<TyRef>
     }
 }
 
-fn has_exception(kind: ClauseKind) -> bool
+pub(crate) fn has_exception(kind: ClauseKind) -> bool
     ensures { result ≡ has_exception kind }
 {
     matches!(kind, ClauseKind::RequiresOf | ClauseKind::Throws)
@@ -37,15 +37,6 @@ pub fn exception_of(kind: ClauseKind, operand: &Operand) -> Option<TyRef>
         argument_type(operand)
     } else {
         None
-    }
-}
-
-fn count_params(p: &Program, m: u32) -> usize
-    ensures { result ≡ length (method_of p.now m).params }
-{
-    match p.methods.get(m as usize) {
-        Some(desc) => desc.params.len(),
-        None => 0,
     }
 }
 

@@ -1,24 +1,26 @@
 // The rules on contract blocks, each at a place.
 
-ghost use Rattle.std.specs.Prelude.{◌≡◌, ◌<◌, ◌≤◌, ◌^◌, ◌/◌, ◌%◌, ◌==◌, ◌+◌, ◌&&◌, ◌||◌, false, not, nat_lt, nat_le, Bool, ℕ, map, length, find, option_copied, slice_get};
+ghost use Rattle.std.specs.Prelude.{◌≡◌, ◌<◌, ◌≤◌, ◌^◌, ◌+◌, ◌-◌, ◌&&◌, ◌||◌, false, not, nat_lt, nat_le, length};
 ghost use Rattle.std.specs.List.{list_any, slice_range};
 ghost use Rattle.cil_base.specs.Refusals.{first_of};
 ghost use Rattle.cil_semantics.specs.Lookups.{method_of, type_of};
-ghost use Rattle.contract_extract.specs.Flow.{placed, last_argument};
+ghost use Rattle.contract_parts.specs.Flow.{placed, last_argument};
 ghost use Rattle.cil_semantics.specs.Words.{maybe};
 ghost use Rattle.cil_semantics.specs.ContractCalls.{contract_call};
 ghost use Rattle.contract_extract.specs.OwnContract.{ended_at};
-ghost use Rattle.contract_extract.specs.Parts.{segment_instrs, segment_code, is_nop, is_throw, is_it, stored};
-ghost use Rattle.contract_extract.specs.Rules.{has_place, crosses, is_generated, breaks_1, meets, is_ret, is_left_empty, drops_code, segment_breaks_2, breaks_2, breaks_3, breaks_5, may_name_result, is_ensures, is_postcondition, kind_at, outside_range, isnt_of_entry, is_stored_by, range_breaks_4, old_breaks_4, breaks_4, range_holds, named_breaks_6, is_in_old, breaks_6, segment_from, breaks_7, tests_at, tests};
+ghost use Rattle.contract_parts.specs.Parts.{segment_instrs, segment_code, is_nop, is_throw, is_it, stored};
+ghost use Rattle.contract_extract.specs.Rules.{has_place, crosses, is_generated, breaks_1, meets, is_ret, is_left_empty, drops_code, segment_breaks_2, breaks_2, breaks_3, breaks_5, may_name_result, is_ensures, is_postcondition, kind_at, outside_range, isnt_of_entry, is_stored_by, range_breaks_4, old_breaks_4, breaks_4, range_holds, named_breaks_6, is_in_old, breaks_6, segment_from, breaks_7, place_of, tests_at, tests};
 
-use crate::block::{Block, is_it, named, read, stored};
-use crate::call::{contract_call, ended_kind, ends_block, is_prefix};
-use crate::effect::has_result;
-use crate::segment::Segment;
-use crate::slices::part;
-use cil_base::{Refusal, Rule};
+use crate::block::Block;
+use crate::clause::has_exception;
+use crate::exceptions::has_wrong_type;
+use cil_base::{Place, Refusal, Rule};
 use cil_model::{ClauseKind, Instr, Operand, Program, Region};
 use cil_semantics::ContractCall;
+use contract_parts::{
+    Segment, contract_call, ended_kind, ends_block, has_result, is_it, is_nop, is_prefix, is_throw,
+    named, part, read, stored,
+};
 
 /// The instruction at a place is part of a region.
 fn has_place(place: u32, region: &Region) -> bool
@@ -54,18 +56,6 @@ fn crosses(call: u32, place: u32, instr: &Instr) -> bool
             .any(|target| target_crosses(call, place, *target)),
         _ => false,
     }
-}
-
-fn is_throw(instr: &Instr) -> bool
-    ensures { result ≡ is_throw instr.now }
-{
-    instr.op == 0x7A
-}
-
-fn is_nop(instr: &Instr) -> bool
-    ensures { result ≡ is_nop instr.now }
-{
-    instr.op == 0x00
 }
 
 fn is_ret(instr: &Instr) -> bool
@@ -122,16 +112,26 @@ fn is_invariant_method(p: &Program, m: u32) -> bool
     }
 }
 
-impl<'a> Block<'a> {
-    fn instrs(&self) -> &'a [Instr]
-        ensures list { result.now ≡ self.now.instrs }
-        ensures few { length result.now < 2 ^ 31 }
-    {
-        let code = self.code;
-        code.instrs()
+/// The row of a method.
+fn place_of(p: &Program, m: u32) -> Place
+    ensures { result ≡ place_of p.now m }
+{
+    match p.methods.get(m as usize) {
+        Some(desc) => Place {
+            assembly: desc.assembly,
+            table: 6,
+            row: desc.row,
+        },
+        None => Place {
+            assembly: 0,
+            table: 6,
+            row: 0,
+        },
     }
+}
 
-    fn call(&self, instr: &Instr) -> ContractCall
+impl<'a> Block<'a> {
+    pub fn call(&self, instr: &Instr) -> ContractCall
         ensures { result ≡ contract_call self.now.program instr.now }
     {
         let code = self.code;
@@ -139,7 +139,7 @@ impl<'a> Block<'a> {
     }
 
     /// The kind of the clause that the call at a place ends.
-    fn ended_at(&self, at: u32) -> Option<ClauseKind>
+    pub fn ended_at(&self, at: u32) -> Option<ClauseKind>
         ensures { result ≡ ended_at self.now at }
     {
         match self.instrs().get(at as usize) {
@@ -172,7 +172,7 @@ impl<'a> Block<'a> {
     }
 
     fn is_in_region(&self, place: u32) -> bool
-        ensures { result ≡ list_any (has_place place) self.now.regions }
+        ensures { result ≡ list_any (has_place place) self.now.body.regions }
     {
         let code = self.code;
         code.regions().iter().any(|region| has_place(place, region))
@@ -195,14 +195,14 @@ impl<'a> Block<'a> {
     {
         let code = self.code;
         match self.instrs().get(segment.at as usize) {
-            Some(instr) => code.is_reached(segment.at) && self.leaves_none(segment.at, instr),
+            Some(instr) => code.is_reached(segment.at) && code.leaves_none(segment.at, instr),
             None => false,
         }
     }
 
     /// The segment holds a part of a region.
     fn holds_region(&self, segment: &Segment) -> bool
-        ensures { result ≡ list_any (meets segment.now.from (segment.now.at + 1)) self.now.regions }
+        ensures { result ≡ list_any (meets segment.now.from (segment.now.at + 1)) self.now.body.regions }
     {
         let code = self.code;
         code.regions().iter().any(|region| meets(segment.from, segment.at as u64 + 1, region))
@@ -226,7 +226,7 @@ impl<'a> Block<'a> {
 
     /// More than nops stands before the segment's call.
     fn acts_before_call(&self, segment: &Segment) -> bool
-        ensures { result ≡ list_any (λ i. not (is_nop i)) (slice_range self.now.instrs segment.now.from segment.now.at) }
+        ensures { result ≡ list_any (λ i. not (is_nop i)) (slice_range self.now.body.instrs segment.now.from segment.now.at) }
     {
         part(self.instrs(), segment.from as usize, segment.at as usize)
             .iter()
@@ -284,13 +284,16 @@ impl<'a> Block<'a> {
     fn holds_throw(&self, segment: &Segment) -> bool
         ensures { result ≡ list_any is_throw (segment_instrs self.now segment.now) }
     {
-        self.segment_code(segment).iter().any(is_throw)
+        self.segment_code(segment)
+            .iter()
+            .any(|instr| is_throw(instr))
     }
 
     /// The instructions of a segment, its prefix call last.
-    fn segment_code(&self, segment: &Segment) -> &'a [Instr]
+    pub fn segment_code(&self, segment: &Segment) -> &'a [Instr]
         ensures list { result.now ≡ segment_instrs self.now segment.now }
         ensures few { length result.now < 2 ^ 31 }
+        ensures within { length result.now ≤ 2 ^ 31 - segment.now.from }
     {
         part(
             self.instrs(),
@@ -300,14 +303,14 @@ impl<'a> Block<'a> {
     }
 
     /// Another instruction of the segment than those of a range stores a local.
-    fn is_stored_outside(&self, segment: &Segment, from: u32, to: u32, k: u32) -> bool
+    fn is_stored_outside(&self, segment: &Segment, from: usize, to: u32, k: u32) -> bool
         ensures { result ≡ list_any (λ j. is_it k (stored j)) (outside_range self.now segment.now from to) }
     {
         let code = self.segment_code(segment);
         let mut found = false;
         let mut place = segment.from as usize;
         for instr in code {
-            if !(from as usize <= place && place < to as usize) {
+            if !(from <= place && place < to as usize) {
                 found = found || is_it(k, stored(instr));
             }
             place += 1;
@@ -316,7 +319,7 @@ impl<'a> Block<'a> {
     }
 
     /// An instruction of an argument of OldValue that isn't to be evaluated at entry.
-    fn isnt_of_entry(&self, segment: &Segment, from: u32, to: u32, instr: &Instr) -> bool
+    fn isnt_of_entry(&self, segment: &Segment, from: usize, to: u32, instr: &Instr) -> bool
         ensures { result ≡ (isnt_of_entry (contract_call self.now.program instr.now) || is_stored_by (outside_range self.now segment.now from to) instr.now) }
     {
         match self.call(instr) {
@@ -329,22 +332,22 @@ impl<'a> Block<'a> {
         }
     }
 
-    fn range_breaks_4(&self, from: u32, to: u32, segment: &Segment) -> bool
+    fn range_breaks_4(&self, from: usize, to: u32, segment: &Segment) -> bool
         ensures { result ≡ range_breaks_4 self.now from to segment.now }
     {
-        part(self.instrs(), from as usize, to as usize)
+        part(self.instrs(), from, to as usize)
             .iter()
             .any(|instr| self.isnt_of_entry(segment, from, to, instr))
     }
 
     /// The range of an argument of OldValue, at the place of its call, holds a place.
     fn range_holds(&self, place: u32, at: u32, instr: &Instr) -> bool
-        requires { at < length self.now.instrs }
+        requires { at < length self.now.body.instrs }
         ensures { result ≡ range_holds self.now place (at, instr.now) }
     {
         match self.call(instr) {
             ContractCall::TakesOld => match self.last_argument(at) {
-                Some(from) => from <= place && place < at,
+                Some(from) => from <= place as usize && place < at,
                 None => false,
             },
             _ => false,
@@ -352,7 +355,7 @@ impl<'a> Block<'a> {
     }
 
     fn named_breaks_6(&self, place: u32, k: u32) -> bool
-        requires { place < length self.now.instrs }
+        requires { place < length self.now.body.instrs }
         ensures { result ≡ named_breaks_6 self.now place k }
     {
         self.is_in_block(place)
@@ -387,7 +390,7 @@ impl<'a> Block<'a> {
 
     /// C6: a local that isn't to be named here.
     fn breaks_6(&self, place: u32, instr: &Instr) -> bool
-        requires { place < length self.now.instrs }
+        requires { place < length self.now.body.instrs }
         ensures { result ≡ breaks_6 self.now (place, instr.now) }
     {
         let names = match named(instr) {
@@ -403,7 +406,7 @@ impl<'a> Block<'a> {
 
     /// C4: an OldValue call that no path reaches, or whose argument isn't to be evaluated at entry.
     fn breaks_4(&self, place: u32, instr: &Instr) -> bool
-        requires { place < length self.now.instrs }
+        requires { place < length self.now.body.instrs }
         ensures { result ≡ breaks_4 self.now (place, instr.now) }
     {
         let code = self.code;
@@ -414,7 +417,7 @@ impl<'a> Block<'a> {
     }
 
     fn old_breaks_4(&self, at: u32) -> bool
-        requires { at < length self.now.instrs }
+        requires { at < length self.now.body.instrs }
         ensures { result ≡ old_breaks_4 self.now at (last_argument self.now at) }
     {
         match self.last_argument(at) {
@@ -426,10 +429,23 @@ impl<'a> Block<'a> {
         }
     }
 
-    /// The first rule that an instruction breaks at its place, where it is told of C7.
-    fn first_at(&self, place: u32, instr: &Instr, seven: bool) -> Option<Refusal>
-        requires within { place < length self.now.instrs }
-        requires seventh { seven ≡ breaks_7 self.now (place, instr.now) }
+    /// C7: the exception of a contract can't be thrown, or made.
+    fn breaks_7(&self, place: u32, instr: &Instr) -> bool
+        ensures { result ≡ breaks_7 self.now (place, instr.now) }
+    {
+        let code = self.code();
+        match ended_kind(self.call(instr)) {
+            Some(kind) => {
+                has_exception(kind)
+                    && has_wrong_type(code.program(), code.method(), kind, &instr.operand)
+            }
+            None => false,
+        }
+    }
+
+    /// The first rule that an instruction breaks at its place.
+    fn first_at(&self, place: u32, instr: &Instr) -> Option<Refusal>
+        requires { place < length self.now.body.instrs }
         ensures { result ≡ first_of (tests_at self.now (place, instr.now)) }
     {
         let rule = if self.breaks_1(place, instr) {
@@ -444,26 +460,24 @@ impl<'a> Block<'a> {
             Rule::C5
         } else if self.breaks_6(place, instr) {
             Rule::C6
-        } else if seven {
+        } else if self.breaks_7(place, instr) {
             Rule::C7
         } else {
             return None;
         };
         let code = self.code;
-        Some(code.place().refusal(rule, code.offset(place)))
+        Some(place_of(code.program(), code.method()).refusal(rule, code.offset(place)))
     }
 
-    /// The first rule that the body breaks, by place and then by rule. For each place `sevens` tells
-    /// whether C7 is broken there.
+    /// The first rule that the body breaks, by place and then by rule.
     #[tactic(auto, unfolding(crate::specs::Rules::tests))]
-    pub fn first_refusal(&self, sevens: &[bool]) -> Option<Refusal>
-        requires { sevens.now ≡ map (breaks_7 self.now) (placed self.now) }
+    pub fn first_refusal(&self) -> Option<Refusal>
         ensures { result ≡ first_of (tests self.now) }
     {
         let instrs = self.instrs();
         let mut place = 0;
         for instr in instrs {
-            let refusal = self.first_at(place, instr, sevens[place as usize]);
+            let refusal = self.first_at(place, instr);
             if refusal.is_some() {
                 return refusal;
             }

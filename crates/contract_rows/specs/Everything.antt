@@ -6,6 +6,11 @@ unfolding
     Rattle.il_opcodes.specs.Opcodes.opcode_of
     Rattle.std.specs.Fmt.digits
     Rattle.cil_semantics.specs.ContractCalls.contract_call
+    Rattle.il_flow.specs.Boundaries.the_boundaries
+    Rattle.il_flow.specs.Ranges.is_closed
+    Rattle.il_flow.specs.Ranges.last_argument
+    Rattle.il_flow.specs.Ranges.argument_before
     Rattle.contract_extract.specs.OwnContract.own_contract
+    Rattle.contract_extract.specs.Exceptions.is_exception_within
     Rattle.contract_extract.specs.Rules.tests
 everything = tt

@@ -11,7 +11,7 @@ use Rattle.cil_model.specs.declared.contract.ClauseKind.TheVariants as kind
 use Rattle.cil_model.specs.declared.ty.Ty.{Ty, Known, MVar}
 use Rattle.cil_semantics.specs.Core.{Name, class_named}
 use Rattle.machine_rows.specs.Samples.{instr, bare, ldarg, ldloc, stloc, int, jump, ret, body, method, int_ty, void_ty, member_token}
-use Rattle.contract_extract.specs.Flow.{Code}
+use Rattle.contract_parts.specs.Flow.{Code}
 use Rattle.contract_extract.specs.OwnContract.{own_contract}
 use Rattle.contract_rows.specs.Samples.{sample, sample_of, code, first_broken, with_closure, requires, requires_with, requires_of, ensures_call, on_throw, invariant_call, assert_call, end_block, result, old_value, value_at_return, new_exception, object_constructor, log_get, with_field, ldstr, locals_token, new_closure, with_closure_field}
 use Rattle.contract_extract.specs.Clauses.{ref}

@@ -6,6 +6,7 @@ use Rattle.cil_base.specs.declared.rule.Rule.{Rule}
 use Rattle.cil_base.specs.declared.refusal.Refusal.{Refusal}
 use Rattle.cil_base.specs.Refusals.{first_of}
 use Rattle.cil_model.specs.declared.ty.Ty.{Ty, Prim, Known, MVar, ByRef}
+use Rattle.cil_model.specs.declared.body.Body.{Body}
 use Rattle.cil_model.specs.declared.body.Instr.{Instr}
 use Rattle.cil_model.specs.declared.body.Region.{Region}
 use Rattle.cil_model.specs.declared.body.Operand.TheVariants.{Nothing, Index, Tok}
@@ -16,12 +17,11 @@ use Rattle.cil_model.specs.declared.program.TokenRow.{TokenRow}
 use Rattle.cil_model.specs.declared.program.Meaning.TheVariants.{OfMethod, OfField, OfText, OfLocals}
 use Rattle.cil_semantics.specs.Core.{Name, class_named, string_ty, object_ty, contract_name}
 use Rattle.machine_rows.specs.Samples.{instr, body, method, outside, outside_class, class_with, bool_ty, int_ty, void_ty, member_token, count_up}
-use Rattle.il_opcodes.specs.declared.opcode.Opcode.{Opcode}
-use Rattle.il_opcodes.specs.declared.class.Class.{Class}
-use Rattle.il_opcodes.specs.declared.class.Class.TheVariants as class'
 use Rattle.il_opcodes.specs.Opcodes.{opcode_of}
 use Rattle.cil_semantics.specs.Words.{or_else}
-use Rattle.contract_extract.specs.Flow.{Code, effect_of, targets, placed}
+use Rattle.il_flow.specs.Successors.{goes_on, targets}
+use Rattle.il_flow.specs.Effects.{height_after}
+use Rattle.contract_parts.specs.Flow.{Code, effect, placed}
 use Rattle.contract_extract.specs.Rules.{tests}
 
 -- ---- members of Contract, each with its arguments where it is generic
@@ -193,18 +193,6 @@ with_closure p =
 
 -- ---- heights of samples, found in one pass: no code of theirs is reached by backward branches alone
 
-abbrev pub class_goes_on : Class → Bool
-class_goes_on class'.Jump = false
-class_goes_on class'.Return = false
-class_goes_on class'.Throw = false
-class_goes_on class'.Leave = false
-class_goes_on class'.EndFinally = false
-class_goes_on _ = true
-
-abbrev pub goes_on : Option Opcode → Bool
-goes_on None = true
-goes_on (Some o) = class_goes_on o.class
-
 abbrev pub recorded : ℕ → List (ℕ × ℕ) → Option ℕ
 recorded q [] = None
 recorded q (x ∷ xs) = if x.0 == q then Some x.1 else recorded q xs
@@ -213,7 +201,7 @@ abbrev pub if_goes_on : Bool → ℕ → Option ℕ
 if_goes_on b h = if b then Some h else None
 
 abbrev pub height_past : Code → Instr → ℕ → ℕ
-height_past c i h = h - (effect_of c i).takes + (effect_of c i).leaves
+height_past c i h = height_after (effect c i) h
 
 abbrev pub walk_past : Code → Instr → List (ℕ × ℕ) → Option ℕ → (Option ℕ → List (ℕ × ℕ) → List (Option ℕ)) → List (Option ℕ)
 walk_past c i ahead None go = None ∷ go None ahead
@@ -230,7 +218,8 @@ entry_heights r = (r.handler_from, 0) ∷ []
 -- the code of the first method of a program, whose handlers are finally blocks
 abbrev pub code : Program → List Instr → List Region → Code
 code p is rs =
-    let c : Code = record { program = p; method = 0; instrs = is; offsets = count_up 0 (length is); regions = rs; locals = Some locals_token; heights = []; reached = [] } in
+    let b : Body = record (body is rs (Some locals_token)) { offsets = count_up 0 (length is) } in
+    let c : Code = record { program = p; method = 0; body = b; heights = []; reached = [] } in
     let hs : List (Option ℕ) = walk c (Some 0) (flat_map entry_heights rs) (placed c) in
     record c { heights = map (λ h. unwrap_or h 0) hs; reached = map is_some hs }
 

@@ -3,8 +3,8 @@ use Rattle.std.specs.Prelude.{◌||◌}
 use Rattle.cil_model.specs.declared.program.MethodDesc.{MethodDesc}
 use Rattle.cil_model.specs.declared.ty.Ty as types
 use Rattle.cil_semantics.specs.Lookups.{no_method}
-use Rattle.contract_extract.specs.Flow.{has_result}
-use Rattle.contract_extract.proofs.LookupLaws.{method_past}
+use Rattle.contract_parts.specs.Flow.{has_result}
+use Rattle.contract_parts.proofs.LookupLaws.{method_past}
 use Rattle.contract_extract.proofs.rules.may_name_result.Goals as goal
 
 pub returns-in-None : goal.returns-in-None

@@ -1,9 +1,0 @@
-use Rattle.std.proofs.Common.{length, sym, ap}
-use Rattle.cil_model.specs.declared.program.MethodDesc.{MethodDesc}
-use Rattle.cil_semantics.specs.Lookups.{no_method}
-use Rattle.contract_extract.proofs.LookupLaws.{method_past}
-use Rattle.contract_extract.proofs.clause.count_params.Goals as goal
-
-pub returns-in-None : goal.returns-in-None
-unfolding no_method
-returns-in-None c = sym (ap (λ (d : MethodDesc). length d.params) (method_past c.args.p.now c.args.m (sym c.in-None.ensures)))
