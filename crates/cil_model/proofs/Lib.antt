@@ -1,1 +1,2 @@
 mod MethodListLaws
+mod TokenLaws

@@ -6,6 +6,7 @@ pub mod SmallMeaning
 pub mod SmallBody
 pub mod NoContracts
 pub mod MethodLists
+pub mod TokenKeys
 pub mod TokenLists
 pub mod Programs
 pub mod Texts

@@ -146,7 +146,7 @@ pub fn methods(alloc: Global) -> Result<MethodDescs, AllocError> {
 fn tokens(alloc: Global) -> Result<TokenRows, AllocError> {
     let mut out = TokenRows::new(alloc);
     for row in 1..7u32 {
-        out.push(TokenRow {
+        out.note(TokenRow {
             assembly: 0,
             token: token(row),
             meaning: Meaning::OfMethod {

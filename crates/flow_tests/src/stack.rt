@@ -11,7 +11,7 @@ use il_flow::heights_of;
 use std::alloc::{AllocError, Global};
 
 fn put(alloc: Global, rows: &mut TokenRows, table: u8, meaning: Meaning) -> Result<(), AllocError> {
-    rows.push(TokenRow {
+    rows.note(TokenRow {
         assembly: 3,
         token: first_row(table),
         meaning,
