@@ -126,6 +126,27 @@ def bodies_are_limited(measure):
     return right
 
 
+def sets_are_limited(program, data, folder):
+    """Whether files of 64 MiB are read, those of 256 MiB and more together are not, nor one that is longer."""
+    target, large, longer, right = folder / "in.dll", folder / "large.dll", folder / "longer.dll", True
+    target.write_bytes(data)
+    for file, size in [(large, 64 << 20), (longer, (64 << 20) + 1)]:
+        with file.open("wb") as new:
+            new.truncate(size)
+    for files, text in [
+        ([target] + [large] * 3, "refused: P1 assembly 1 table 00 row 0 at 0"),
+        ([target] + [large] * 4, "refused: L2 assembly 0 table 00 row 0 at 268435457"),
+        ([target, large, longer], "refused: L1 assembly 2 table 00 row 0 at 67108865"),
+        ([target, folder / "missing.dll", longer], f"store: {folder / 'missing.dll'}"),
+    ]:
+        start = time.monotonic()
+        words = [program, "rewrite", "--out", folder / "out.dll", *files]
+        run = subprocess.run(words, stdout=subprocess.PIPE, text=True, preexec_fn=limited)
+        status = 3 if text.startswith("store") else 1
+        right &= told(f"a set of {len(files)} files", start, run, status, text, not (folder / "out.dll").exists())
+    return right
+
+
 def main():
     program, assembly, *measure = sys.argv[1:]
     data = pathlib.Path(assembly).read_bytes()
@@ -150,6 +171,8 @@ def main():
             run = subprocess.run([program, "rewrite", "--out", out, source], stdout=subprocess.PIPE, text=True, preexec_fn=limited)
             kept = out.read_bytes() == b"old" and source.read_bytes() == content
             differs |= not told(what, start, run, status, text, kept == (status == 1))
+        out.unlink()
+        differs |= not sets_are_limited(program, data, pathlib.Path(folder))
     for it in measure:
         differs |= not bodies_are_limited(it)
     return differs

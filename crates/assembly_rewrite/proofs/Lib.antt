@@ -1,2 +1,3 @@
 pub mod ContractLaws
 pub mod RewriteLaws
+pub mod SetLaws

@@ -1,5 +1,5 @@
 -- An assembly written anew: what its parts say of it.
-use Rattle.std.proofs.Common.{◌≡◌, ◌≢◌, ◌⊎◌, ℕ, ◌-◌, ◌^◌, ◌<◌, ◌≤◌, eqb, ltb, Bool, true, false, cond, not, ◌||◌, List, map, length, take, drop, Result, Ok, Err, refl, sym, ap, ◌∙◌, subst, inl, inr, arith}
+use Rattle.std.proofs.Common.{◌≡◌, ◌≢◌, ◌⊎◌, ℕ, ◌-◌, ◌^◌, ◌<◌, ◌≤◌, eqb, ltb, Bool, true, false, cond, not, ◌||◌, List, length, take, drop, Result, Ok, Err, refl, sym, ap, ◌∙◌, subst, inl, inr, arith}
 use Rattle.std.specs.Prelude.{IfOk, IsOk, OnOk}
 use Rattle.std.proofs.lemmas.List.{take_all}
 use Rattle.std.proofs.lemmas.Bool.{cases_Bool, and_parts, eqb-true, lt-ltb}
@@ -11,7 +11,6 @@ use Rattle.cil_base.specs.Refusals.{NoneBroken, Fails, OnRefused, OnMemory}
 use Rattle.cil_base.proofs.RefusalLaws.{OnRefused-weaker, OnMemory-weaker}
 use Rattle.cil_base.proofs.OrderLaws.{first_is_one}
 use Rattle.cil_base.proofs.Small.{on_ok, same_err}
-use Rattle.cil_base.proofs.LayerLaws.{named_before, named_behind, none_joined}
 use Rattle.pe_image.specs.declared.growth.SectionGrowth.{SectionGrowth}
 use Rattle.pe_image.specs.Headers.{headers_of, file_alignment}
 use Rattle.pe_image.proofs.WrittenLaws.{next_up}
@@ -27,9 +26,8 @@ use Rattle.heap_writer.specs.Written.{limit_tests, IsWritten}
 use Rattle.cli_tables.specs.Tables.{rows_in, AreIn}
 use Rattle.cli_tables.specs.TableRules.{HeaderBroken, has_unread, is_one_assembly}
 use Rattle.cli_tables.specs.Written.{NoneFull, AreOfOne, IsOverfull, IsRefused, FitsLimits}
-use Rattle.assembly.specs.Assemblies as reading
 use Rattle.assembly.specs.Assemblies.{metadata_in, tables_of}
-use Rattle.assembly_rewrite.specs.Rewrite.{no_growths, stream_of, metadata_with, new_metadata, IsLimit, AreTooLong, AreShort, KeepsRows, IsContract, PassesLimit, HasNoRoom, Layer, Reading, Contracts, Limits, Room, Breaks, Names, MayBoth, later_layers, IsAssemblyRefusal, KeepsAssemblyRules, IsRewriteRefusal, KeepsRewriteRules}
+use Rattle.assembly_rewrite.specs.Rewrite.{no_growths, stream_of, metadata_with, new_metadata, IsLimit, AreTooLong, AreShort, KeepsRows, IsContract, PassesLimit, HasNoRoom, Layer, Contracts, Limits, Room, Breaks, Names, MayBoth, IsRewriteRefusal, KeepsRewriteRules}
 
 -- ---- limits
 
@@ -205,27 +203,14 @@ all_kept bytes a m r contracts limits e f =
     on_ok {P = NoneBroken (λ x. growth_in bytes a (headers_of bytes) (length m) ≡ Err x)} {Q = KeepsRewriteRules bytes a} r
     (λ h. (contracts, (limits, (subst (λ (l : List ℕ). NoneBroken (λ x. growth_in bytes a (headers_of bytes) (length l) ≡ Err x)) e h, tt)))) f
 
--- ---- what is read comes first
-
-pub unread : (bytes : List ℕ) (a : ℕ) (r : Refusal) → reading.IsUnread bytes a r → IsAssemblyRefusal bytes a r
-unread bytes a r h = named_before (Breaks bytes a) (Names bytes a) (map Reading reading.layers) later_layers r h
-
-pub read_first : (bytes : List ℕ) (a : ℕ) (r : Refusal) → reading.IsReadable bytes a → IsRewriteRefusal bytes a r → IsAssemblyRefusal bytes a r
-read_first bytes a r none h = named_behind (Breaks bytes a) (Names bytes a) (map Reading reading.layers) later_layers r none h
-
-pub all_read : (bytes : List ℕ) (a : ℕ) → reading.IsReadable bytes a → KeepsRewriteRules bytes a → KeepsAssemblyRules bytes a
-all_read bytes a none more = none_joined (Breaks bytes a) (Names bytes a) (map Reading reading.layers) later_layers none more
-
 -- ---- which refusals are named
 
 pub names_broken : (bytes : List ℕ) (a : ℕ) (l : Layer) (r : Refusal) → Names bytes a l r → Breaks bytes a l r
-names_broken bytes a (Reading l) r h = h.broken
 names_broken bytes a Contracts r h = h.broken
 names_broken bytes a Limits r h = h
 names_broken bytes a Room r h = h
 
 pub names_one : (bytes : List ℕ) (a : ℕ) (l : Layer) (r s : Refusal) → Names bytes a l r → Names bytes a l s → (s ≡ r) ⊎ MayBoth bytes l s r
-names_one bytes a (Reading l) r s h k = inl (first_is_one (reading.Breaks bytes a l) r s h k)
 names_one bytes a Contracts r s h k = inl (first_is_one (IsContract (metadata_of bytes) a) r s h k)
 names_one bytes a Limits r s h k = inr (limit_rule bytes s k, limit_rule bytes r h, k, h)
 names_one bytes a Room r s h k = inl (same_err s r _ k h)

@@ -1,5 +1,5 @@
 -- What `rewrite` makes of one assembly without contracts: the same rows in a grown image, with its metadata in a section of their own.
-use Rattle.std.specs.Prelude.{◌≡◌, ◌⊎◌, ◌<◌, ◌≤◌, ◌^◌, ℕ, List, [], ◌∷◌, ◌++◌, map, length, codes, Some, Ok, Err, IsOk}
+use Rattle.std.specs.Prelude.{◌≡◌, ◌⊎◌, ◌<◌, ◌≤◌, ◌^◌, ℕ, List, [], ◌∷◌, length, codes, Some, Ok, Err, IsOk}
 use Rattle.cil_base.specs.declared.rule.Rule.TheVariants.{Z1, L5, L6}
 use Rattle.cil_base.specs.declared.refusal.Refusal.{Refusal}
 use Rattle.cil_base.specs.Refusals.{First, NoneBroken, Fails, InLayers, NoneOf, limit_refusal}
@@ -8,7 +8,6 @@ use Rattle.pe_image.specs.Cli.{metadata_of}
 use Rattle.pe_image.specs.SectionGrowth.{growth_in, room_of}
 use Rattle.pe_image.specs.Written.{grown_of, KeepsBytes}
 use Rattle.pe_image.specs.ReadBack.{new_rva, Grows}
-use Rattle.assembly.specs.Assemblies as reading
 use Rattle.assembly.specs.Assemblies.{tables_of}
 use Rattle.cli_heaps.specs.Root as root
 use Rattle.cli_heaps.specs.Entries.{string_at}
@@ -97,30 +96,24 @@ HasNoRoom bytes assembly r = growth_in bytes assembly (headers_of bytes) (length
 
 -- ---- the layers of rules
 
--- the rules on its bytes; Z1 on what isn't rewritten yet; L5 on what is written; P5 and L6 on the image that grows
+-- Z1 on what isn't rewritten yet; L5 on what is written; P5 and L6 on the image that grows
 pub data Layer : Type 0 where
-  Reading : reading.Layer → Layer
   Contracts : Layer
   Limits : Layer
   Room : Layer
 
 -- in the order in which they are tried
-abbrev pub later_layers : List Layer
-later_layers = Contracts ∷ Limits ∷ Room ∷ []
-
 abbrev pub layers : List Layer
-layers = map Reading reading.layers ++ later_layers
+layers = Contracts ∷ Limits ∷ Room ∷ []
 
 -- a rule that this assembly of the command breaks, and where
 abbrev pub Breaks : List ℕ → ℕ → Layer → Refusal → Type 0
-Breaks bytes assembly (Reading layer) = reading.Breaks bytes assembly layer
 Breaks bytes assembly Contracts = IsContract (metadata_of bytes) assembly
 Breaks bytes assembly Limits = PassesLimit bytes
 Breaks bytes assembly Room = HasNoRoom bytes assembly
 
 -- the first of a layer; of the limits of what is written any one that is passed
 abbrev pub Names : List ℕ → ℕ → Layer → Refusal → Type 0
-Names bytes assembly (Reading layer) = reading.Names bytes assembly layer
 Names bytes assembly Contracts = First (IsContract (metadata_of bytes) assembly)
 Names bytes assembly Limits = PassesLimit bytes
 Names bytes assembly Room = HasNoRoom bytes assembly
@@ -130,20 +123,12 @@ abbrev pub MayBoth : List ℕ → Layer → Refusal → Refusal → Type 0
 MayBoth bytes Limits r s = (r.rule ≡ L5) × (s.rule ≡ L5) × PassesLimit bytes r × PassesLimit bytes s
 MayBoth bytes layer r s = ⊥
 
--- the first broken rule of the bytes
-abbrev pub IsAssemblyRefusal : List ℕ → ℕ → Refusal → Type 0
-IsAssemblyRefusal bytes assembly = InLayers (Breaks bytes assembly) (Names bytes assembly) layers
-
--- No rule is broken.
-abbrev pub KeepsAssemblyRules : List ℕ → ℕ → Type 0
-KeepsAssemblyRules bytes assembly = NoneOf (Breaks bytes assembly) layers
-
 -- what is refused of an assembly that is read
 abbrev pub IsRewriteRefusal : List ℕ → ℕ → Refusal → Type 0
-IsRewriteRefusal bytes assembly = InLayers (Breaks bytes assembly) (Names bytes assembly) later_layers
+IsRewriteRefusal bytes assembly = InLayers (Breaks bytes assembly) (Names bytes assembly) layers
 
 abbrev pub KeepsRewriteRules : List ℕ → ℕ → Type 0
-KeepsRewriteRules bytes assembly = NoneOf (Breaks bytes assembly) later_layers
+KeepsRewriteRules bytes assembly = NoneOf (Breaks bytes assembly) layers
 
 -- ---- want of memory
 

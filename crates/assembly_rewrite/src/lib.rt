@@ -3,5 +3,7 @@
 
 mod contract_rows;
 mod rewrite;
+mod set;
 
-pub use rewrite::{rewrite_assembly, rewrite_bytes};
+pub use rewrite::rewrite_assembly;
+pub use set::rewrite_set;

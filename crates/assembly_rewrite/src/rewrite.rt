@@ -13,7 +13,7 @@ ghost use Rattle.cli_tables.specs.Tables.{AreIn};
 ghost use Rattle.cli_tables.specs.TableRules.{HeaderBroken};
 ghost use Rattle.cli_tables.specs.Written.{AreOfOne};
 ghost use Rattle.assembly.specs.Assemblies.{AreWritable, tables_of};
-ghost use Rattle.assembly_rewrite.specs.Rewrite.{no_growths, stream_of, metadata_with, new_metadata, IsLimit, AreTooLong, AreShort, MayWantMemory, PassesLimit, KeepsRows, KeepsAssemblyRules, IsAssemblyRefusal, KeepsRewriteRules, IsRewriteRefusal};
+ghost use Rattle.assembly_rewrite.specs.Rewrite.{no_growths, stream_of, metadata_with, new_metadata, IsLimit, AreTooLong, AreShort, MayWantMemory, PassesLimit, KeepsRows, KeepsRewriteRules, IsRewriteRefusal};
 
 use crate::contract_rows::first_contract_row;
 use assembly::Assembly;
@@ -112,19 +112,4 @@ pub fn rewrite_assembly(alloc: Global, assembly: &Assembly<'_>) -> Result<Bytes,
         Err(fault) => return Err(fault),
     };
     place_metadata(alloc, assembly.image(), metadata.as_slice())
-}
-
-/// The same for the bytes of the command's first assembly: before Z1 come the rules of reading, as
-/// `Assembly::read` says.
-pub fn rewrite_bytes(alloc: Global, bytes: &[u8]) -> Result<Bytes, Fault>
-    requires { length bytes.now < 2 ^ 32 }
-    ensures done { IfOk result (KeepsRows bytes.now 0) }
-    ensures accepted { OnOk result (KeepsAssemblyRules bytes.now 0) }
-    ensures refused { OnRefused result (IsAssemblyRefusal bytes.now 0) }
-{
-    let assembly = match Assembly::read(alloc, bytes, 0) {
-        Ok(assembly) => assembly,
-        Err(fault) => return Err(fault),
-    };
-    rewrite_assembly(alloc, &assembly)
 }

@@ -1,5 +1,5 @@
 -- The words of a command.
-use Rattle.std.proofs.Common.{◌≡◌, ℕ, ◌+◌, ◌-◌, ◌≤◌, Bool, true, false, ◌&&◌, ◌||◌, ◌==◌, List, [], ◌∷◌, length, take, drop, get_or, Option, Some, None, refl, sym, ap, ◌∙◌, subst, arith, string_bytes}
+use Rattle.std.proofs.Common.{◌≡◌, ℕ, ◌+◌, ◌-◌, ◌≤◌, ◌<◌, Bool, true, false, ◌&&◌, ◌||◌, ◌==◌, List, [], ◌∷◌, length, take, drop, get_or, Option, Some, None, refl, sym, ap, ◌∙◌, subst, arith, string_bytes}
 use Rattle.std.specs.Prelude.{String, codes, is_some, if◌then◌else◌}
 use Rattle.std.specs.Option.{option_or}
 use Rattle.std.specs.Str.{bytes_eq}
@@ -32,66 +32,48 @@ given : (b : Bool) (k : ℕ) → (if b then None else Some k) ≡ None → b ≡
 given true k e = refl
 given false k e = absurd cc
 
-so_many : (count place : ℕ) (words : List (List ℕ)) → wrong_positional count place words ≡ None → length words ≡ count
-so_many count place [] e = by_test (count == 0) refl
-  where
-    by_test : (b : Bool) → (count == 0) ≡ b → 0 ≡ count
-    by_test true t = grind arith
-    by_test false t = let f : Some place ≡ None = rw t at e in absurd cc
-so_many count place (w ∷ ws) e = by_test (count == 0) (is_dashed w) refl refl (λ f. so_many (count - 1) (place + 1) ws f)
-  where
-    by_test : (b d : Bool) → (count == 0) ≡ b → is_dashed w ≡ d → (wrong_positional (count - 1) (place + 1) ws ≡ None → length ws ≡ count - 1) → length (w ∷ ws) ≡ count
-    by_test true d t u later = let f : Some place ≡ None = rw t at e in absurd cc
-    by_test false true t u later = let f : (if (false || is_dashed w) then Some place else wrong_positional (count - 1) (place + 1) ws) ≡ None = rw t at e in let g : Some place ≡ None = rw u at f in absurd cc
-    by_test false false t u later =
-        let f : (if (false || is_dashed w) then Some place else wrong_positional (count - 1) (place + 1) ws) ≡ None = rw t at e in
-        let g : wrong_positional (count - 1) (place + 1) ws ≡ None = rw u at f in
-        let r = later g in
-        let some : 1 ≤ count = grind arith in
-        omega (arith, r, some)
-
-pub one_positional : (words : List (List ℕ)) → wrong_behind rewrite_options 1 words ≡ None → length (positionals words) ≡ 1
-one_positional words e =
+-- where at least one is wanted, right words have one
+pub some_positional : (words : List (List ℕ)) → wrong_behind rewrite_options true 1 words ≡ None → 0 < length (positionals words)
+some_positional words e =
     let place = 1 + (length words - length (positionals words)) in
     let later = if are_given words rewrite_options then None else Some (1 + length words) in
-    let p = no_second (wrong_option rewrite_options [] 1 words) (option_or (wrong_positional 1 place (positionals words)) later) e in
-    so_many 1 place (positionals words) (no_first (wrong_positional 1 place (positionals words)) later p)
+    let p = no_second (wrong_option rewrite_options [] 1 words) (option_or (wrong_positional true 1 place (positionals words)) later) e in
+    some place (positionals words) (no_first (wrong_positional true 1 place (positionals words)) later p)
+  where
+    some : (place : ℕ) (names : List (List ℕ)) → wrong_positional true 1 place names ≡ None → 0 < length names
+    some place [] f = absurd cc
+    some place (n ∷ ns) f = omega arith
 
-pub out_there : (words : List (List ℕ)) → wrong_behind rewrite_options 1 words ≡ None → value_of (codes "--out") words ≡ None → ⊥
+pub out_there : (words : List (List ℕ)) → wrong_behind rewrite_options true 1 words ≡ None → value_of (codes "--out") words ≡ None → ⊥
 out_there words e none =
     let place = 1 + (length words - length (positionals words)) in
     let later = if are_given words rewrite_options then None else Some (1 + length words) in
-    let p = no_second (wrong_option rewrite_options [] 1 words) (option_or (wrong_positional 1 place (positionals words)) later) e in
-    let g = given (are_given words rewrite_options) (1 + length words) (no_second (wrong_positional 1 place (positionals words)) later p) in
+    let p = no_second (wrong_option rewrite_options [] 1 words) (option_or (wrong_positional true 1 place (positionals words)) later) e in
+    let g = given (are_given words rewrite_options) (1 + length words) (no_second (wrong_positional true 1 place (positionals words)) later p) in
     let h : (is_some (value_of (codes "--out") words) && true) ≡ true = g in
     let f : false ≡ true = rw none at h in
     absurd cc
-
-pub only_name : (names : List (String Global)) (t : String Global) (words : List (List ℕ)) → texts names ≡ words → length words ≡ 1 → t ≡ get_or names 0 t → words ≡ string_bytes t ∷ []
-only_name [] t words e l i = let n : length words ≡ 0 = ap length (sym e) in absurd (omega (arith, n, l))
-only_name (x ∷ []) t words e l i = sym e ∙ ap (λ s. string_bytes s ∷ []) (sym i)
-only_name (x ∷ y ∷ ws) t words e l i = let n : length words ≡ length (texts (x ∷ y ∷ ws)) = ap length (sym e) in absurd (omega (arith, n, l))
 
 -- ---- the command
 
 take_rest : (x : String Global) (ws : List (String Global)) → take (length (x ∷ ws) - 1) ws ≡ ws
 take_rest x ws = let e : length (x ∷ ws) - 1 ≡ length ws = omega arith in rw e (take-length ws)
 
-pub body_command : (words : List (String Global)) (c : String Global) (input output : List ℕ) → 1 ≤ length words → c ≡ get_or words 0 c → bytes_eq (string_bytes c) (codes "body") ≡ true → wrong_behind [] 2 (texts (take (length words - 1) (drop 1 words))) ≡ None → texts (take (length words - 1) (drop 1 words)) ≡ input ∷ output ∷ [] → IsBodyCommand (texts words) input output
-body_command [] c input output l e t r n = absurd (omega arith)
-body_command (x ∷ ws) c input output l e t r n =
+pub body_command : (words : List (String Global)) (c : String Global) (inputs : List (List ℕ)) (input output : List ℕ) → 1 ≤ length words → c ≡ get_or words 0 c → bytes_eq (string_bytes c) (codes "body") ≡ true → wrong_behind [] false 2 (texts (take (length words - 1) (drop 1 words))) ≡ None → texts (take (length words - 1) (drop 1 words)) ≡ input ∷ output ∷ [] → inputs ≡ input ∷ [] → IsBodyCommand (texts words) inputs output
+body_command [] c inputs input output l e t r n i = absurd (omega arith)
+body_command (x ∷ ws) c inputs input output l e t r n i =
     let rest = take_rest x ws in
-    let r' : wrong_behind [] 2 (texts ws) ≡ None = ap (λ l. wrong_behind [] 2 (texts l)) (sym rest) ∙ r in
+    let r' : wrong_behind [] false 2 (texts ws) ≡ None = ap (λ l. wrong_behind [] false 2 (texts l)) (sym rest) ∙ r in
     let n' : texts ws ≡ input ∷ output ∷ [] = ap texts (sym rest) ∙ n in
     let t' : bytes_eq (string_bytes x) (codes "body") ≡ true = ap (λ s. bytes_eq (string_bytes s) (codes "body")) (sym e) ∙ t in
     let b : string_bytes x ≡ codes "body" = (bytes_eq-Decides (string_bytes x) (codes "body")).0 t' in
-    record { right = ap (λ s. wrong_word (s ∷ texts ws)) b ∙ r'; is = ap (λ s. s ∷ texts ws) b ∙ ap (λ l. codes "body" ∷ l) n' }
+    record { right = ap (λ s. wrong_word (s ∷ texts ws)) b ∙ r'; input = input; inputs_are = i; is = ap (λ s. s ∷ texts ws) b ∙ ap (λ l. codes "body" ∷ l) n' }
 
-pub rewrite_command : (words : List (String Global)) (c : String Global) (settings : Settings) (input output : List ℕ) → 1 ≤ length words → c ≡ get_or words 0 c → bytes_eq (string_bytes c) (codes "rewrite") ≡ true → wrong_behind rewrite_options 1 (texts (take (length words - 1) (drop 1 words))) ≡ None → positionals (texts (take (length words - 1) (drop 1 words))) ≡ input ∷ [] → value_of (codes "--out") (texts (take (length words - 1) (drop 1 words))) ≡ Some output → AreSettings (texts (take (length words - 1) (drop 1 words))) settings → IsRewriteCommand (texts words) settings output input
-rewrite_command [] c settings input output l e t r n o s = absurd (omega arith)
-rewrite_command (x ∷ ws) c settings input output l e t r n o s =
+pub rewrite_command : (words : List (String Global)) (c : String Global) (settings : Settings) (inputs : List (List ℕ)) (output : List ℕ) → 1 ≤ length words → c ≡ get_or words 0 c → bytes_eq (string_bytes c) (codes "rewrite") ≡ true → wrong_behind rewrite_options true 1 (texts (take (length words - 1) (drop 1 words))) ≡ None → positionals (texts (take (length words - 1) (drop 1 words))) ≡ inputs → 0 < length inputs → value_of (codes "--out") (texts (take (length words - 1) (drop 1 words))) ≡ Some output → AreSettings (texts (take (length words - 1) (drop 1 words))) settings → IsRewriteCommand (texts words) settings output inputs
+rewrite_command [] c settings inputs output l e t r n m o s = absurd (omega arith)
+rewrite_command (x ∷ ws) c settings inputs output l e t r n m o s =
     let rest = take_rest x ws in
-    let r' : wrong_behind rewrite_options 1 (texts ws) ≡ None = ap (λ l. wrong_behind rewrite_options 1 (texts l)) (sym rest) ∙ r in
+    let r' : wrong_behind rewrite_options true 1 (texts ws) ≡ None = ap (λ l. wrong_behind rewrite_options true 1 (texts l)) (sym rest) ∙ r in
     let t' : bytes_eq (string_bytes x) (codes "rewrite") ≡ true = ap (λ s. bytes_eq (string_bytes s) (codes "rewrite")) (sym e) ∙ t in
     let b : string_bytes x ≡ codes "rewrite" = (bytes_eq-Decides (string_bytes x) (codes "rewrite")).0 t' in
     record {
@@ -100,5 +82,6 @@ rewrite_command (x ∷ ws) c settings input output l e t r n o s =
       is = ap (λ s. s ∷ texts ws) b;
       settings_are = subst (λ l. AreSettings (texts l) settings) rest s;
       out_is = ap (λ l. value_of (codes "--out") (texts l)) (sym rest) ∙ o;
-      target_is = ap (λ l. positionals (texts l)) (sym rest) ∙ n;
+      inputs_are = ap (λ l. positionals (texts l)) (sym rest) ∙ n;
+      target = m;
     }

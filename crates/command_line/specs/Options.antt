@@ -96,11 +96,12 @@ wrong_option options before place (w ∷ []) = if is_option w then Some (wrong_l
 wrong_option options before place (w ∷ v ∷ ws) =
     if is_option w then option_or (wrong_pair (allowed options before w) v place) (wrong_option options (before ++ (w ∷ v ∷ [])) (place + 2) ws) else None
 
--- the first wrong word of the positionals that begin at the place and are to be so many: one that begins with a dash, one too
--- many, or the place behind them where one is missing
-abbrev pub wrong_positional : ℕ → ℕ → List (List ℕ) → Option ℕ
-wrong_positional count place [] = if count == 0 then None else Some place
-wrong_positional count place (w ∷ ws) = if (count == 0) || is_dashed w then Some place else wrong_positional (count - 1) (place + 1) ws
+-- the first wrong word of the positionals that begin at the place and are to be so many, or at least so many: one that begins with
+-- a dash, one too many, or the place behind them where one is missing
+abbrev pub wrong_positional : Bool → ℕ → ℕ → List (List ℕ) → Option ℕ
+wrong_positional at_least count place [] = if count == 0 then None else Some place
+wrong_positional at_least count place (w ∷ ws) =
+    if ((count == 0) && not at_least) || is_dashed w then Some place else wrong_positional at_least (count - 1) (place + 1) ws
 
 -- the option is there, or needn't be
 abbrev pub is_given : List (List ℕ) → OptionName → Bool
@@ -111,8 +112,8 @@ are_given words [] = true
 are_given words (o ∷ os) = is_given words o && are_given words os
 
 -- the first wrong word behind the command, or the number of words where one is missing
-abbrev pub wrong_behind : List OptionName → ℕ → List (List ℕ) → Option ℕ
-wrong_behind options count words =
+abbrev pub wrong_behind : List OptionName → Bool → ℕ → List (List ℕ) → Option ℕ
+wrong_behind options at_least count words =
     option_or (wrong_option options [] 1 words)
-    (option_or (wrong_positional count (1 + (length words - length (positionals words))) (positionals words))
+    (option_or (wrong_positional at_least count (1 + (length words - length (positionals words))) (positionals words))
     (if are_given words options then None else Some (1 + length words)))

@@ -1,5 +1,5 @@
 -- Which words are a command's.
-use Rattle.std.specs.Prelude.{◌≡◌, ℕ, true, false, if◌then◌else◌, List, [], ◌∷◌, Option, Some, None, codes}
+use Rattle.std.specs.Prelude.{◌≡◌, ◌<◌, ℕ, true, false, length, if◌then◌else◌, List, [], ◌∷◌, Option, Some, None, codes}
 use Rattle.std.specs.Str.{bytes_eq}
 use Rattle.std.specs.Option.{unwrap_or}
 use Rattle.cil_model.specs.declared.contract.Level.{Level}
@@ -18,13 +18,15 @@ rewrite_options = option.Level ∷ option.Guard ∷ option.Out ∷ []
 abbrev pub wrong_word : List (List ℕ) → Option ℕ
 wrong_word [] = Some 0
 wrong_word (c ∷ words) =
-    if bytes_eq c (codes "body") then wrong_behind [] 2 words
-    else if bytes_eq c (codes "rewrite") then wrong_behind rewrite_options 1 words
+    if bytes_eq c (codes "body") then wrong_behind [] false 2 words
+    else if bytes_eq c (codes "rewrite") then wrong_behind rewrite_options true 1 words
     else Some 0
 
 -- the words of a rewriting of one body
-pub record IsBodyCommand (words : List (List ℕ)) (input output : List ℕ) : Type 0 where
+pub record IsBodyCommand (words inputs : List (List ℕ)) (output : List ℕ) : Type 0 where
   pub right : wrong_word words ≡ None
+  pub input : List ℕ
+  pub inputs_are : inputs ≡ input ∷ []
   pub is : words ≡ codes "body" ∷ input ∷ output ∷ []
 
 -- ---- the rewriting of an assembly
@@ -49,17 +51,19 @@ pub record AreSettings (words : List (List ℕ)) (settings : Settings) : Type 0 
   pub surface_is : settings.surface ≡ false
   pub callsite_is : settings.callsite ≡ false
 
-pub record IsRewriteCommand (words : List (List ℕ)) (settings : Settings) (output target : List ℕ) : Type 0 where
+-- TARGET comes first, and REFs behind it.
+pub record IsRewriteCommand (words : List (List ℕ)) (settings : Settings) (output : List ℕ) (inputs : List (List ℕ)) : Type 0 where
   pub right : wrong_word words ≡ None
   pub behind : List (List ℕ)
   pub is : words ≡ codes "rewrite" ∷ behind
   pub settings_are : AreSettings behind settings
   pub out_is : value_of (codes "--out") behind ≡ Some output
-  pub target_is : positionals behind ≡ target ∷ []
+  pub inputs_are : positionals behind ≡ inputs
+  pub target : 0 < length inputs
 
 -- ---- both
 
--- The words are those of this command, which reads one file and writes the other.
-abbrev pub IsCommand : List (List ℕ) → Command → List ℕ → List ℕ → Type 0
-IsCommand words Body input output = IsBodyCommand words input output
-IsCommand words (Rewrite settings) input output = IsRewriteCommand words settings output input
+-- The words are those of this command, which reads these files and writes that one.
+abbrev pub IsCommand : List (List ℕ) → Command → List (List ℕ) → List ℕ → Type 0
+IsCommand words Body inputs output = IsBodyCommand words inputs output
+IsCommand words (Rewrite settings) inputs output = IsRewriteCommand words settings output inputs

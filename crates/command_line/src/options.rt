@@ -202,18 +202,18 @@ fn wrong_option(words: &[String], options: &[OptionName]) -> Option<usize>
 }
 
 /// The place of the first wrong word among the positionals, which begin at `place` and are to be
-/// `count`.
-fn wrong_positional(words: &[String], count: usize, place: usize) -> Option<usize>
+/// `count`, or at least as many.
+fn wrong_positional(words: &[String], at_least: bool, count: usize, place: usize) -> Option<usize>
     requires { place + length words.now < 2 ^ 64 }
-    ensures { result ≡ wrong_positional count place (texts words.now) }
+    ensures { result ≡ wrong_positional at_least count place (texts words.now) }
 {
     let mut left = count;
     let mut at = place;
     for word in words {
-        if left == 0 || is_dashed(word.as_str()) {
+        if left == 0 && !at_least || is_dashed(word.as_str()) {
             return Some(at);
         }
-        left -= 1;
+        left = left.saturating_sub(1);
         at += 1;
     }
     if left == 0 { None } else { Some(at) }
@@ -239,15 +239,21 @@ fn are_given(words: &[String], options: &[OptionName]) -> bool
 }
 
 /// The place of the first wrong word behind a command that has these options and so many
-/// positionals, or the number of words where one is missing.
-pub(crate) fn wrong_behind(words: &[String], options: &[OptionName], count: usize) -> Option<usize>
-    ensures { result ≡ wrong_behind options.now count (texts words.now) }
+/// positionals, or at least as many, or the number of words where one is missing.
+pub(crate) fn wrong_behind(
+    words: &[String],
+    options: &[OptionName],
+    at_least: bool,
+    count: usize,
+) -> Option<usize>
+    ensures { result ≡ wrong_behind options.now at_least count (texts words.now) }
 {
     if let Some(place) = wrong_option(words, options) {
         return Some(place);
     }
     let names = positionals(words);
-    if let Some(place) = wrong_positional(names, count, 1 + (words.len() - names.len())) {
+    let behind = 1 + (words.len() - names.len());
+    if let Some(place) = wrong_positional(names, at_least, count, behind) {
         return Some(place);
     }
     if are_given(words, options) {

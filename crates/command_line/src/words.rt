@@ -1,5 +1,5 @@
 // The command that the words are.
-ghost use Rattle.std.specs.Prelude.{◌≡◌, ◌≤◌, [], ◌∷◌, IfOk, IfErr, Some, None, string_bytes, length, option_map, codes};
+ghost use Rattle.std.specs.Prelude.{◌≡◌, ◌≤◌, ◌<◌, ℕ, List, false, true, [], ◌∷◌, IfOk, IfErr, Some, None, string_bytes, length, option_map, codes};
 ghost use Rattle.command_line.specs.Options.{texts, option_text, number_of, wrong_behind, value_of, positionals};
 ghost use Rattle.command_line.specs.Words.{wrong_word, rewrite_options, level_number, number_or, AreSettings, IsCommand};
 
@@ -15,11 +15,11 @@ pub enum Command {
     Rewrite(Settings),
 }
 
-/// A command, the name of the file that it reads, and of the one that it writes.
+/// A command, the names of the files that it reads in their order, and of the one that it writes.
 #[derive(Drop)]
 pub struct Request<'a> {
     pub command: Command,
-    pub input: &'a str,
+    pub inputs: &'a [String],
     pub output: &'a str,
 }
 
@@ -69,35 +69,32 @@ fn settings_of(words: &[String]) -> Settings
 }
 
 /// The names behind `body`, or the place of the first wrong word.
-fn body_names(words: &[String]) -> Result<(&str, &str), usize>
-    ensures right { IfOk result (λ pair. (wrong_behind [] 2 (texts words.now) ≡ None) × (texts words.now ≡ pair.0.now ∷ pair.1.now ∷ [])) }
-    ensures wrong { IfErr result (λ k. wrong_behind [] 2 (texts words.now) ≡ Some k) }
+fn body_names(words: &[String]) -> Result<(&[String], &str), usize>
+    ensures right { IfOk result (λ pair. (wrong_behind [] false 2 (texts words.now) ≡ None) × ((input : List ℕ) × (texts pair.0.now ≡ input ∷ []) × (texts words.now ≡ input ∷ pair.1.now ∷ []))) }
+    ensures wrong { IfErr result (λ k. wrong_behind [] false 2 (texts words.now) ≡ Some k) }
 {
-    if let Some(place) = wrong_behind(words, &[], 2) {
+    if let Some(place) = wrong_behind(words, &[], false, 2) {
         return Err(place);
     }
     match words {
-        [input, output] => Ok((input.as_str(), output.as_str())),
+        [_, output] => Ok((&words[..1], output.as_str())),
         // Right words are two.
         _ => Err(0),
     }
 }
 
-/// TARGET and OUT among the words behind `rewrite`, or the place of the first wrong word.
-fn rewrite_names(words: &[String]) -> Result<(&str, &str), usize>
-    ensures right { IfOk result (λ pair. (wrong_behind rewrite_options 1 (texts words.now) ≡ None) × (positionals (texts words.now) ≡ pair.0.now ∷ []) × (value_of (codes "--out") (texts words.now) ≡ Some pair.1.now)) }
-    ensures wrong { IfErr result (λ k. wrong_behind rewrite_options 1 (texts words.now) ≡ Some k) }
+/// TARGET with the REFs behind it, and OUT, among the words behind `rewrite`, or the place of the
+/// first wrong word.
+fn rewrite_names(words: &[String]) -> Result<(&[String], &str), usize>
+    ensures right { IfOk result (λ pair. (wrong_behind rewrite_options true 1 (texts words.now) ≡ None) × (positionals (texts words.now) ≡ texts pair.0.now) × (0 < length (texts pair.0.now)) × (value_of (codes "--out") (texts words.now) ≡ Some pair.1.now)) }
+    ensures wrong { IfErr result (λ k. wrong_behind rewrite_options true 1 (texts words.now) ≡ Some k) }
 {
-    if let Some(place) = wrong_behind(words, &REWRITE_OPTIONS, 1) {
+    if let Some(place) = wrong_behind(words, &REWRITE_OPTIONS, true, 1) {
         return Err(place);
     }
-    let target = match positionals(words) {
-        [target, ..] => target.as_str(),
-        // Right words have one.
-        [] => return Err(0),
-    };
+    let inputs = positionals(words);
     match value_of(words, OptionName::Out.text()) {
-        Some(output) => Ok((target, output)),
+        Some(output) => Ok((inputs, output)),
         // Right words have it.
         None => Err(0),
     }
@@ -105,7 +102,7 @@ fn rewrite_names(words: &[String]) -> Result<(&str, &str), usize>
 
 /// What the words ask for, or the place of the first wrong word.
 pub fn command_of(words: &[String]) -> Result<Request, usize>
-    ensures right { IfOk result (λ r. IsCommand (texts words.now) r.command r.input.now r.output.now) }
+    ensures right { IfOk result (λ r. IsCommand (texts words.now) r.command (texts r.inputs.now) r.output.now) }
     ensures wrong { IfErr result (λ k. wrong_word (texts words.now) ≡ Some k) }
 {
     match words {
@@ -113,9 +110,9 @@ pub fn command_of(words: &[String]) -> Result<Request, usize>
         [command, behind @ ..] => {
             if command.as_str() == "body" {
                 return match body_names(behind) {
-                    Ok((input, output)) => Ok(Request {
+                    Ok((inputs, output)) => Ok(Request {
                         command: Command::Body,
-                        input,
+                        inputs,
                         output,
                     }),
                     Err(place) => Err(place),
@@ -125,9 +122,9 @@ pub fn command_of(words: &[String]) -> Result<Request, usize>
                 return Err(0);
             }
             match rewrite_names(behind) {
-                Ok((input, output)) => Ok(Request {
+                Ok((inputs, output)) => Ok(Request {
                     command: Command::Rewrite(settings_of(behind)),
-                    input,
+                    inputs,
                     output,
                 }),
                 Err(place) => Err(place),

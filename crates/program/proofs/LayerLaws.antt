@@ -1,52 +1,45 @@
--- Which refusals of a file are named.
-use Rattle.std.proofs.Common.{◌≡◌, ◌⊎◌, ◌*◌, ◌^◌, ◌<◌, ◌≤◌, ℕ, List, [], ◌∷◌, length, refl, sym, ◌∙◌, inl, inr, arith}
+-- Which refusals of the files of a command are named.
+use Rattle.std.proofs.Common.{◌≡◌, ◌⊎◌, ℕ, List, [], ◌∷◌, length, sym, ◌∙◌, inl, inr}
 use Rattle.cil_base.specs.declared.refusal.Refusal.{Refusal}
-use Rattle.cil_base.specs.Refusals.{NoneBroken}
+use Rattle.cil_base.specs.Refusals.{InLayers}
 use Rattle.cil_base.proofs.OrderLaws.{first_is_one}
-use Rattle.cil_base.specs.Refusals.{InLayers, NoneOf}
+use Rattle.cil_base.proofs.LayerLaws.{layers_are_one}
 use Rattle.command_line.specs.declared.words.Command.{Command}
+use Rattle.command_line.specs.declared.words.Command.TheVariants as commands
 use Rattle.body_splice.specs.Rewrite as body
-use Rattle.assembly_rewrite.proofs.RewriteLaws.{names_broken, names_one}
-use Rattle.program.specs.Layers.{Layer, Size, OfBody, OfAssembly, layers, Breaks, Names, MayBoth, InSome, size_limit, too_long}
-use Rattle.program.specs.Program.{IsRefusal, IsEither, IsInnerRefusal}
-
-named_breaks : (bytes : List ℕ) (l : Layer) (r : Refusal) → Names bytes l r → Breaks bytes l r
-named_breaks bytes Size r h = h
-named_breaks bytes (OfBody l) r h = h.broken
-named_breaks bytes (OfAssembly l) r h = names_broken bytes 0 l r h
-
-one_of_layer : (bytes : List ℕ) (l : Layer) (r s : Refusal) → Names bytes l r → Names bytes l s → (s ≡ r) ⊎ MayBoth bytes l s r
-one_of_layer bytes Size r s h k = inl (k.1 ∙ sym h.1)
-one_of_layer bytes (OfBody l) r s h k = inl (first_is_one (body.Breaks bytes l) r s h k)
-one_of_layer bytes (OfAssembly l) r s h k = names_one bytes 0 l r s h k
+use Rattle.assembly_rewrite.specs.Sets as rewriting
+use Rattle.assembly_rewrite.specs.Sets.{bytes_at}
+use Rattle.assembly_rewrite.proofs.SetLaws.{names_broken, names_one}
+use Rattle.program.specs.Layers.{InSome, IsInnerRefusal, IsInnerEither}
+use Rattle.program.specs.Reading.{Reading, Whole, Missing, Passes}
+use Rattle.program.specs.Program.{IsRefusal, IsEither}
 
 -- in layers one refusal is named, or one of two that a layer may name both
-one_of : (bytes : List ℕ) (ls : List Layer) (r s : Refusal) → InLayers (Breaks bytes) (Names bytes) ls r → InLayers (Breaks bytes) (Names bytes) ls s → (s ≡ r) ⊎ InSome (MayBoth bytes) ls s r
-one_of bytes [] r s h k = absurd h
-one_of bytes (l ∷ ls) r s (inl h) (inl k) = in_first (one_of_layer bytes l r s h k)
-  where
-    in_first : (s ≡ r) ⊎ MayBoth bytes l s r → (s ≡ r) ⊎ InSome (MayBoth bytes) (l ∷ ls) s r
-    in_first (inl e) = inl e
-    in_first (inr e) = inr (inl e)
-one_of bytes (l ∷ ls) r s (inl h) (inr k) = absurd (k.0 r (named_breaks bytes l r h))
-one_of bytes (l ∷ ls) r s (inr h) (inl k) = absurd (h.0 s (named_breaks bytes l s k))
-one_of bytes (l ∷ ls) r s (inr h) (inr k) = in_later (one_of bytes ls r s h.1 k.1)
-  where
-    in_later : (s ≡ r) ⊎ InSome (MayBoth bytes) ls s r → (s ≡ r) ⊎ InSome (MayBoth bytes) (l ∷ ls) s r
-    in_later (inl e) = inl e
-    in_later (inr e) = inr (inr e)
+module _ {L : Type 0} (Broken Named : L → Refusal → Type 0) (Either : L → Refusal → Refusal → Type 0) (broken : (l : L) (r : Refusal) → Named l r → Broken l r) (one : (l : L) (r s : Refusal) → Named l r → Named l s → (s ≡ r) ⊎ Either l s r) where
+  one_of : (ls : List L) (r s : Refusal) → InLayers Broken Named ls r → InLayers Broken Named ls s → (s ≡ r) ⊎ InSome Either ls s r
+  one_of [] r s h k = absurd h
+  one_of (l ∷ ls) r s (inl h) (inl k) = in_first (one l r s h k)
+    where
+      in_first : (s ≡ r) ⊎ Either l s r → (s ≡ r) ⊎ InSome Either (l ∷ ls) s r
+      in_first (inl e) = inl e
+      in_first (inr e) = inr (inl e)
+  one_of (l ∷ ls) r s (inl h) (inr k) = absurd (k.0 r (broken l r h))
+  one_of (l ∷ ls) r s (inr h) (inl k) = absurd (h.0 s (broken l s k))
+  one_of (l ∷ ls) r s (inr h) (inr k) = in_later (one_of ls r s h.1 k.1)
+    where
+      in_later : (s ≡ r) ⊎ InSome Either ls s r → (s ≡ r) ⊎ InSome Either (l ∷ ls) s r
+      in_later (inl e) = inl e
+      in_later (inr e) = inr (inr e)
 
--- A file is refused by one refusal, but for a second limit.
-pub one_refusal : (command : Command) (bytes : List ℕ) (r s : Refusal) → IsRefusal command bytes r → IsRefusal command bytes s → (s ≡ r) ⊎ IsEither command bytes s r
-one_refusal command bytes r s h k = one_of bytes (layers command) r s h k
+pub one_inner : (command : Command) (set : List (List ℕ)) (r s : Refusal) → IsInnerRefusal command set r → IsInnerRefusal command set s → (s ≡ r) ⊎ IsInnerEither command set s r
+one_inner commands.Body set r s h k =
+    let b = bytes_at set 0 in
+    layers_are_one (body.Breaks b) (body.Names b) (λ x y. ⊥) body.layers (λ l x y. y.broken) (λ l x y p q. inl (first_is_one (body.Breaks b l) x y p q)) r s h k
+one_inner (commands.Rewrite settings) set r s h k =
+    one_of (rewriting.Breaks set) (rewriting.Names set) (rewriting.MayBoth set) (names_broken set) (names_one set) (rewriting.layers (length set)) r s h k
 
--- ---- the size
-
-pub within : (bytes : List ℕ) → length bytes ≤ size_limit → NoneBroken (Breaks bytes Size)
-within bytes h = λ r x. omega (arith, h, x.0)
-
-pub within_refused : (command : Command) (bytes : List ℕ) (r : Refusal) → length bytes ≤ size_limit → IsInnerRefusal command bytes r → IsRefusal command bytes r
-within_refused command bytes r h b = inr (within bytes h, b)
-
-pub too_long_refused : (command : Command) (bytes : List ℕ) → size_limit < length bytes → IsRefusal command bytes too_long
-too_long_refused command bytes h = inl (h, refl)
+-- The files are refused by one refusal, but for a second limit.
+pub one_refusal : (command : Command) (files : Reading) (r s : Refusal) → IsRefusal command files r → IsRefusal command files s → (s ≡ r) ⊎ IsEither command files s r
+one_refusal command (Whole set) r s h k = one_inner command set r s h k
+one_refusal command (Missing name) r s h k = absurd h
+one_refusal command (Passes limit) r s h k = inl (k ∙ sym h)

@@ -1,3 +1,4 @@
+pub mod Reading
 pub mod Layers
 pub mod Program
 pub mod Process

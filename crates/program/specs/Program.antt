@@ -2,7 +2,6 @@
 use Rattle.std.specs.Prelude.{◌≡◌, ◌≢◌, ◌⊎◌, ℕ, ◌≤◌, Bool, List, ◌++◌, length, take, Option, Some, None, IsTrue}
 use Rattle.cil_base.specs.Causes.{Rose}
 use Rattle.cil_base.specs.declared.refusal.Refusal.{Refusal}
-use Rattle.cil_base.specs.Refusals.{InLayers, NoneOf}
 use Rattle.outside_core.specs.Store.{Files, SameFiles}
 use Rattle.command_line.specs.Text.{done_text, rewrite_text, refusal_text, words_text, store_text, memory_text}
 use Rattle.command_line.specs.declared.words.Command.{Command}
@@ -10,33 +9,28 @@ use Rattle.command_line.specs.declared.words.Command.TheVariants as commands
 use Rattle.command_line.specs.Words.{wrong_word, IsCommand}
 use Rattle.body_splice.specs.Rewrite.{IsRewriting}
 use Rattle.assembly_rewrite.specs.Rewrite.{KeepsRows}
-use Rattle.program.specs.Layers.{layers, inner_layers, Breaks, Names, InSome, MayBoth}
+use Rattle.assembly_rewrite.specs.Sets.{bytes_at}
+use Rattle.program.specs.Layers.{IsInnerRefusal, KeepsInnerRules, IsInnerEither}
+use Rattle.program.specs.Reading.{Reading, Whole, Missing, Passes, reading, IsNamed}
 
--- ---- what a command makes of a file
+-- ---- what a command makes of its files
 
 -- The new bytes are what the command makes of the old ones, and the text says so.
-abbrev pub IsMade : Command → List ℕ → List ℕ → List ℕ → Type 0
-IsMade commands.Body old new text = (clauses : ℕ) × IsRewriting old new clauses × (text ≡ done_text clauses)
-IsMade (commands.Rewrite settings) old new text = KeepsRows old 0 new × (text ≡ rewrite_text 1 0 0)
+abbrev pub IsMade : Command → List (List ℕ) → List ℕ → List ℕ → Type 0
+IsMade commands.Body set new text = (clauses : ℕ) × IsRewriting (bytes_at set 0) new clauses × (text ≡ done_text clauses)
+IsMade (commands.Rewrite settings) set new text = KeepsRows (bytes_at set 0) 0 new × (text ≡ rewrite_text (length set) 0 0)
 
--- The file is refused by this: the first broken rule.
-abbrev pub IsRefusal : Command → List ℕ → Refusal → Type 0
-IsRefusal command bytes = InLayers (Breaks bytes) (Names bytes) (layers command)
+-- The files are refused by this: a limit that they pass, or else the first broken rule.
+abbrev pub IsRefusal : Command → Reading → Refusal → Type 0
+IsRefusal command (Whole set) r = IsInnerRefusal command set r
+IsRefusal command (Missing name) r = ⊥
+IsRefusal command (Passes limit) r = r ≡ limit
 
 -- Either of the two may be named.
-abbrev pub IsEither : Command → List ℕ → Refusal → Refusal → Type 0
-IsEither command bytes r s = InSome (MayBoth bytes) (layers command) r s
-
--- No rule is broken.
-abbrev pub IsAccepted : Command → List ℕ → Type 0
-IsAccepted command bytes = NoneOf (Breaks bytes) (layers command)
-
--- the same of what is in a file within the limit
-abbrev pub IsInnerRefusal : Command → List ℕ → Refusal → Type 0
-IsInnerRefusal command bytes = InLayers (Breaks bytes) (Names bytes) (inner_layers command)
-
-abbrev pub KeepsInnerRules : Command → List ℕ → Type 0
-KeepsInnerRules command bytes = NoneOf (Breaks bytes) (inner_layers command)
+abbrev pub IsEither : Command → Reading → Refusal → Refusal → Type 0
+IsEither command (Whole set) r s = IsInnerEither command set r s
+IsEither command (Missing name) r s = ⊥
+IsEither command (Passes limit) r s = ⊥
 
 -- ---- the statuses of a command
 
@@ -45,45 +39,43 @@ pub record PutsFile (old new : Files) (output bytes : List ℕ) : Type 0 where
   pub there : new output ≡ Some bytes
   pub others : (name : List ℕ) → name ≢ output → new name ≡ old name
 
--- The output holds what the command makes of what the input held, and the other names what they held.
-pub record IsDone (command : Command) (old new : Files) (text input output : List ℕ) : Type 0 where
-  pub from : List ℕ
+-- The output holds what the command makes of what the inputs held, and the other names what they held.
+pub record IsDone (command : Command) (old new : Files) (text : List ℕ) (inputs : List (List ℕ)) (output : List ℕ) : Type 0 where
+  pub set : List (List ℕ)
   pub to : List ℕ
-  pub in_file : old input ≡ Some from
+  pub in_files : reading old inputs ≡ Whole set
   pub out_file : PutsFile old new output to
-  pub made : IsMade command from to text
-  pub accepted : IsAccepted command from
+  pub made : IsMade command set to text
+  pub accepted : KeepsInnerRules command set
 
--- The input breaks a rule, and this is the refusal, the only one but for a second limit.
-pub record IsRefused (command : Command) (old : Files) (text input : List ℕ) : Type 0 where
-  pub from : List ℕ
+-- The inputs break a rule, and this is the refusal, the only one but for a second limit.
+pub record IsRefused (command : Command) (old : Files) (text : List ℕ) (inputs : List (List ℕ)) : Type 0 where
   pub refusal : Refusal
-  pub in_file : old input ≡ Some from
-  pub breaks : IsRefusal command from refusal
-  pub only : (other : Refusal) → IsRefusal command from other → (other ≡ refusal) ⊎ IsEither command from other refusal
+  pub breaks : IsRefusal command (reading old inputs) refusal
+  pub only : (other : Refusal) → IsRefusal command (reading old inputs) other → (other ≡ refusal) ⊎ IsEither command (reading old inputs) other refusal
   pub prints : text ≡ refusal_text refusal
 
--- A file of the words can't be read or written: the count rose, or the input is missing.
-pub record StoreFailed (tells : Bool) (old : Files) (before now : ℕ) (text input output : List ℕ) : Type 0 where
+-- A file of the words can't be read or written: the count rose, or an input is missing, and those before it are there and pass no limit.
+pub record StoreFailed (tells : Bool) (old : Files) (before now : ℕ) (text : List ℕ) (inputs : List (List ℕ)) (output : List ℕ) : Type 0 where
   pub name : List ℕ
-  pub named : (name ≡ input) ⊎ (name ≡ output)
-  pub cause : Rose before now ⊎ (IsTrue tells × (name ≡ input) × (old input ≡ None))
+  pub named : IsNamed inputs name ⊎ (name ≡ output)
+  pub cause : Rose before now ⊎ (IsTrue tells × (reading old inputs ≡ Missing name))
   pub prints : text ≡ store_text name
 
--- What becomes of bytes that were read: of the output, by the status.
-pub record FromBytes (command : Command) (tells : Bool) (old new : Files) (before now : ℕ) (bytes output : List ℕ) (status : ℕ) (text : List ℕ) : Type 0 where
-  pub done : status ≡ 0 → (now ≡ before) × IsAccepted command bytes × ((to : List ℕ) × IsMade command bytes to text × (IsTrue tells → PutsFile old new output to))
-  pub refused : status ≡ 1 → (now ≡ before) × ((r : Refusal) × IsRefusal command bytes r × (text ≡ refusal_text r))
+-- What becomes of the bytes of files that were read: of the output, by the status.
+pub record FromBytes (command : Command) (tells : Bool) (old new : Files) (before now : ℕ) (set : List (List ℕ)) (output : List ℕ) (status : ℕ) (text : List ℕ) : Type 0 where
+  pub done : status ≡ 0 → (now ≡ before) × KeepsInnerRules command set × ((to : List ℕ) × IsMade command set to text × (IsTrue tells → PutsFile old new output to))
+  pub refused : status ≡ 1 → (now ≡ before) × ((r : Refusal) × IsInnerRefusal command set r × (text ≡ refusal_text r))
   pub failed : status ≡ 3 → Rose before now × (text ≡ store_text output)
   pub memory : status ≡ 5 → text ≡ memory_text
   pub kept : status ≢ 0 → IsTrue tells → SameFiles old new
   pub only : (status ≡ 0) ⊎ (status ≡ 1) ⊎ (status ≡ 3) ⊎ (status ≡ 5)
 
--- What a command does with its two files, by its status: the files and the count of faults before and after, and the text.
-pub record FileAnswer (command : Command) (tells : Bool) (old new : Files) (before now : ℕ) (input output : List ℕ) (status : ℕ) (text : List ℕ) : Type 0 where
-  pub done : status ≡ 0 → (now ≡ before) × (IsTrue tells → IsDone command old new text input output)
-  pub refused : status ≡ 1 → (now ≡ before) × (IsTrue tells → IsRefused command old text input)
-  pub failed : status ≡ 3 → StoreFailed tells old before now text input output
+-- What a command does with its files, by its status: the files and the count of faults before and after, and the text.
+pub record FileAnswer (command : Command) (tells : Bool) (old new : Files) (before now : ℕ) (inputs : List (List ℕ)) (output : List ℕ) (status : ℕ) (text : List ℕ) : Type 0 where
+  pub done : status ≡ 0 → (now ≡ before) × (IsTrue tells → IsDone command old new text inputs output)
+  pub refused : status ≡ 1 → (now ≡ before) × (IsTrue tells → IsRefused command old text inputs)
+  pub failed : status ≡ 3 → StoreFailed tells old before now text inputs output
   pub memory : status ≡ 5 → text ≡ memory_text
   pub kept : status ≢ 0 → IsTrue tells → SameFiles old new
   pub only : (status ≡ 0) ⊎ (status ≡ 1) ⊎ (status ≡ 3) ⊎ (status ≡ 5)
@@ -100,14 +92,15 @@ pub record WrongAnswer (old new : Files) (before now : ℕ) (place status : ℕ)
 abbrev pub Answer : Bool → Files → Files → ℕ → ℕ → List (List ℕ) → ℕ → List ℕ → Type 0
 Answer tells old new before now words status text =
     ((place : ℕ) × (wrong_word words ≡ Some place) × WrongAnswer old new before now place status text)
-    ⊎ ((command : Command) × (input output : List ℕ) × IsCommand words command input output × FileAnswer command tells old new before now input output status text)
+    ⊎ ((command : Command) × (inputs : List (List ℕ)) × (output : List ℕ) × IsCommand words command inputs output × FileAnswer command tells old new before now inputs output status text)
 
 -- ---- completeness
 
--- Where no fault is counted, what the input holds tells the status, unless memory runs out.
-abbrev pub Expected : Command → Option (List ℕ) → ℕ → Type 0
-Expected command None status = (status ≡ 3) ⊎ (status ≡ 5)
-Expected command (Some bytes) status = ((status ≡ 0) × IsAccepted command bytes) ⊎ ((status ≡ 1) × ((r : Refusal) × IsRefusal command bytes r)) ⊎ (status ≡ 5)
+-- Where no fault is counted, what the inputs hold tells the status, unless memory runs out.
+abbrev pub Expected : Command → Reading → ℕ → Type 0
+Expected command (Missing name) status = (status ≡ 3) ⊎ (status ≡ 5)
+Expected command (Passes limit) status = (status ≡ 1) ⊎ (status ≡ 5)
+Expected command (Whole set) status = ((status ≡ 0) × KeepsInnerRules command set) ⊎ ((status ≡ 1) × ((r : Refusal) × IsInnerRefusal command set r)) ⊎ (status ≡ 5)
 
 -- ---- the text
 

@@ -3,6 +3,7 @@
 
 mod process;
 mod program;
+mod reading;
 
 pub use process::{WordsFault, run_process};
 pub use program::run_words;

@@ -4,6 +4,7 @@ ghost use Rattle.cil_base.specs.Causes.{Rose};
 ghost use Rattle.command_line.specs.Options.{texts};
 ghost use Rattle.command_line.specs.Words.{wrong_word, IsCommand};
 ghost use Rattle.command_line.specs.declared.words.Command.{Command};
+ghost use Rattle.program.specs.Reading.{reading};
 ghost use Rattle.program.specs.Program.{Answer, Puts, Expected};
 ghost use Rattle.program.specs.Process.{fault_status, fault_text};
 
@@ -43,9 +44,9 @@ pub fn run_process<S: Store, W: Sink>(
     ensures answer { IfOk words (λ told. (status : ℕ) × (text : List ℕ)
         × Answer (S.tells store.old) (S.file store.old) (S.file store.new) (S.faults store.old) (S.faults store.new) (texts told.items) status text
         × Puts (W.tells out.old) (W.taken out.old) (W.taken out.new) (W.faults out.old) (W.faults out.new) (W.room out.old) text status result) }
-    ensures complete { IfOk words (λ told. (command : Command) → (input output : List ℕ) → IsCommand (texts told.items) command input output → IsTrue (S.tells store.old)
+    ensures complete { IfOk words (λ told. (command : Command) → (inputs : List (List ℕ)) → (output : List ℕ) → IsCommand (texts told.items) command inputs output → IsTrue (S.tells store.old)
         → ¬ Rose (S.faults store.old) (S.faults store.new) → ¬ Rose (W.faults out.old) (W.faults out.new)
-        → Expected command (S.file store.old input) result) }
+        → Expected command (reading (S.file store.old) inputs) result) }
     ensures steady { IsTrue (S.steady store.old) → S.faults store.new ≡ S.faults store.old }
     ensures untouched { IfOk words (λ told. IsSome (wrong_word (texts told.items)) → store.new ≡ store.old) }
 {

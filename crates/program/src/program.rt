@@ -1,5 +1,5 @@
 // The program's commands.
-ghost use Rattle.std.specs.Prelude.{◌≡◌, ◌≢◌, ◌⊎◌, ℕ, ◌≤◌, List, length, IfOk, IsOkAnd, OnOk, IsTrue, IsSome, string_bytes};
+ghost use Rattle.std.specs.Prelude.{◌≡◌, ◌≢◌, ◌⊎◌, ℕ, ◌≤◌, ◌<◌, List, length, IfOk, IsOkAnd, OnOk, IsTrue, IsSome, string_bytes};
 ghost use Rattle.cil_base.specs.Causes.{Rose};
 ghost use Rattle.cil_base.specs.Refusals.{OnRefused};
 ghost use Rattle.outside_core.specs.Store.{SameFiles};
@@ -8,25 +8,27 @@ ghost use Rattle.command_line.specs.Words.{wrong_word, IsCommand};
 ghost use Rattle.command_line.specs.Text.{done_text, rewrite_text, refusal_text, words_text, store_text};
 ghost use Rattle.command_line.specs.declared.words.Command.{Command};
 ghost use Rattle.body_splice.specs.Rewrite.{IsRewriting, KeepsBodyRules, IsBodyRefusal};
-ghost use Rattle.assembly_rewrite.specs.Rewrite.{KeepsRows, IsAssemblyRefusal, KeepsAssemblyRules};
-ghost use Rattle.program.specs.Layers.{size_limit, too_long};
-ghost use Rattle.program.specs.Program.{IsMade, IsInnerRefusal, KeepsInnerRules, PutsFile, FromBytes, FileAnswer, Answer, Puts, Expected};
+ghost use Rattle.cil_base.specs.declared.limits.TheConstants.{ASSEMBLY_LIMIT};
+ghost use Rattle.assembly_rewrite.specs.Rewrite.{KeepsRows};
+ghost use Rattle.assembly_rewrite.specs.Sets.{bytes_at, IsSetRefusal, KeepsSetRules};
+ghost use Rattle.program.specs.Layers.{IsInnerRefusal, KeepsInnerRules};
+ghost use Rattle.program.specs.Reading.{reading, AreWithin};
+ghost use Rattle.program.specs.Program.{IsMade, PutsFile, FromBytes, FileAnswer, Answer, Puts, Expected};
 ghost use Rattle.program.specs.Replies.{Replied};
 
-use assembly_rewrite::rewrite_bytes;
+use crate::reading::{FilesFault, read_files, refusal_of_number};
+use assembly_rewrite::rewrite_set;
 use body_splice::rewrite_body;
-use cil_base::{Bytes, Fault, Refusal, Rule};
+use cil_base::limits::ASSEMBLY_LIMIT;
+use cil_base::{Bytes, Fault, Refusal};
 use command_line::{
     Command, Request, command_of, text_of_done, text_of_refusal, text_of_rewrite, text_of_store,
     text_of_words,
 };
-use outside_core::{ReadRefusal, Sink, Store, StoreRefusal};
+use outside_core::{Sink, Store, StoreRefusal};
 use std::alloc::{AllocError, Global};
 
-/// The most bytes that a file may have.
-const SIZE_LIMIT: u64 = 64 << 20;
-
-/// What a command makes of a file: the bytes, and the text that says so.
+/// What a command makes of its files: the bytes, and the text that says so.
 #[derive(Drop)]
 struct Output {
     bytes: Bytes,
@@ -48,33 +50,35 @@ fn make_from_body(alloc: Global, bytes: &[u8]) -> Result<Output, Fault>
     })
 }
 
-/// An assembly without contracts is rewritten alike at each level and guard.
-fn make_from_assembly(alloc: Global, bytes: &[u8]) -> Result<Output, Fault>
-    requires { length bytes.now ≤ size_limit }
-    ensures done { IfOk result (λ made. KeepsRows bytes.now 0 made.bytes × (string_bytes made.text ≡ rewrite_text 1 0 0)) }
-    ensures accepted { OnOk result (KeepsAssemblyRules bytes.now 0) }
-    ensures refused { OnRefused result (IsAssemblyRefusal bytes.now 0) }
+/// A set without contracts is rewritten alike at each level and guard.
+fn make_from_set(alloc: Global, files: &[Bytes]) -> Result<Output, Fault>
+    requires within { AreWithin files.now }
+    requires some { 0 < length files.now }
+    ensures done { IfOk result (λ made. KeepsRows (bytes_at files.now 0) 0 made.bytes × (string_bytes made.text ≡ rewrite_text (length files.now) 0 0)) }
+    ensures accepted { OnOk result (KeepsSetRules files.now) }
+    ensures refused { OnRefused result (IsSetRefusal files.now) }
 {
-    let rewritten = match rewrite_bytes(alloc, bytes) {
+    let rewritten = match rewrite_set(alloc, files) {
         Ok(rewritten) => rewritten,
         Err(fault) => return Err(fault),
     };
     Ok(Output {
-        text: text_of_rewrite(alloc, 1, 0, 0)?,
+        text: text_of_rewrite(alloc, files.len() as u32, 0, 0)?,
         bytes: rewritten,
     })
 }
 
-/// What the command makes of the bytes of its file.
-fn make_output(alloc: Global, command: Command, bytes: &[u8]) -> Result<Output, Fault>
-    requires { length bytes.now ≤ size_limit }
-    ensures done { IfOk result (λ made. IsMade command bytes.now made.bytes (string_bytes made.text)) }
-    ensures accepted { OnOk result (KeepsInnerRules command bytes.now) }
-    ensures refused { OnRefused result (IsInnerRefusal command bytes.now) }
+/// What the command makes of the bytes of its files.
+fn make_output(alloc: Global, command: Command, files: &[Bytes]) -> Result<Output, Fault>
+    requires within { AreWithin files.now }
+    requires some { 0 < length files.now }
+    ensures done { IfOk result (λ made. IsMade command files.now made.bytes (string_bytes made.text)) }
+    ensures accepted { OnOk result (KeepsInnerRules command files.now) }
+    ensures refused { OnRefused result (IsInnerRefusal command files.now) }
 {
     match command {
-        Command::Body => make_from_body(alloc, bytes),
-        Command::Rewrite(_) => make_from_assembly(alloc, bytes),
+        Command::Body => make_from_body(alloc, files[0].as_slice()),
+        Command::Rewrite(_) => make_from_set(alloc, files),
     }
 }
 
@@ -128,51 +132,59 @@ fn put_output<S: Store>(
 fn answer_bytes<S: Store>(
     alloc: Global,
     command: Command,
-    bytes: &[u8],
+    files: &[Bytes],
     output: &str,
     store: &mut S,
 ) -> Result<Reply, AllocError>
-    requires { length bytes.now ≤ size_limit }
-    ensures answer { Replied (FromBytes command (S.tells store.old) (S.file store.old) (S.file store.new) (S.faults store.old) (S.faults store.new) bytes.now output.now) result }
+    requires within { AreWithin files.now }
+    requires some { 0 < length files.now }
+    ensures answer { Replied (FromBytes command (S.tells store.old) (S.file store.old) (S.file store.new) (S.faults store.old) (S.faults store.new) files.now output.now) result }
     ensures steady { IsTrue (S.steady store.old) → S.faults store.new ≡ S.faults store.old }
 {
-    match make_output(alloc, command, bytes) {
+    match make_output(alloc, command, files) {
         Err(Fault::Refused(r)) => reply_refusal(alloc, r),
         Err(Fault::Memory(e)) => Err(e),
         Ok(made) => put_output(alloc, store, output, made),
     }
 }
 
-/// The refusal of a file that is too long.
-fn refusal_of_size() -> Refusal
-    ensures { result ≡ too_long }
-{
-    Refusal {
-        rule: Rule::L1,
-        assembly: 0,
-        table: 0,
-        row: 0,
-        at: 67_108_865,
-    }
-}
-
-/// Does the command: what it makes of one file is put into the other.
-fn answer_files<S: Store>(
+/// Reads the files, which are few enough, and does the command on them.
+fn answer_few<S: Store>(
     alloc: Global,
     command: Command,
-    input: &str,
+    inputs: &[String],
     output: &str,
     store: &mut S,
 ) -> Result<Reply, AllocError>
-    ensures answer { Replied (FileAnswer command (S.tells store.old) (S.file store.old) (S.file store.new) (S.faults store.old) (S.faults store.new) input.now output.now) result }
+    requires few { length inputs.now ≤ ASSEMBLY_LIMIT }
+    requires some { 0 < length inputs.now }
+    ensures answer { Replied (FileAnswer command (S.tells store.old) (S.file store.old) (S.file store.new) (S.faults store.old) (S.faults store.new) (texts inputs.now) output.now) result }
     ensures steady { IsTrue (S.steady store.old) → S.faults store.new ≡ S.faults store.old }
 {
-    match store.read_all(alloc, input, SIZE_LIMIT) {
-        Err(ReadRefusal::Failed) => reply_store(alloc, input),
-        Err(ReadRefusal::TooLong) => reply_refusal(alloc, refusal_of_size()),
-        Err(ReadRefusal::Memory(e)) => Err(e),
-        Ok(bytes) => answer_bytes(alloc, command, bytes.as_slice(), output, store),
+    match read_files(alloc, store, inputs) {
+        Err(FilesFault::Failed(name)) => reply_store(alloc, name),
+        Err(FilesFault::Limit(r)) => reply_refusal(alloc, r),
+        Err(FilesFault::Memory(e)) => Err(e),
+        Ok(files) => answer_bytes(alloc, command, files.as_slice(), output, store),
     }
+}
+
+/// Does the command: what it makes of its files is put under the name.
+fn answer_files<S: Store>(
+    alloc: Global,
+    command: Command,
+    inputs: &[String],
+    output: &str,
+    store: &mut S,
+) -> Result<Reply, AllocError>
+    requires { 0 < length inputs.now }
+    ensures answer { Replied (FileAnswer command (S.tells store.old) (S.file store.old) (S.file store.new) (S.faults store.old) (S.faults store.new) (texts inputs.now) output.now) result }
+    ensures steady { IsTrue (S.steady store.old) → S.faults store.new ≡ S.faults store.old }
+{
+    if inputs.len() > ASSEMBLY_LIMIT as usize {
+        return reply_refusal(alloc, refusal_of_number());
+    }
+    answer_few(alloc, command, inputs, output, store)
 }
 
 fn reply_words(alloc: Global, k: usize) -> Result<Reply, AllocError>
@@ -199,10 +211,10 @@ fn answer_words<S: Store>(
         Ok(request) => {
             let Request {
                 command,
-                input,
+                inputs,
                 output,
             } = request;
-            answer_files(alloc, command, input, output, store)
+            answer_files(alloc, command, inputs, output, store)
         }
     }
 }
@@ -221,10 +233,10 @@ pub fn run_words<S: Store, W: Sink>(
         × Answer (S.tells store.old) (S.file store.old) (S.file store.new) (S.faults store.old) (S.faults store.new) (texts words.now) status text
         × Puts (W.tells out.old) (W.taken out.old) (W.taken out.new) (W.faults out.old) (W.faults out.new) (W.room out.old) text status result }
 
-    // Where no fault is counted, what the file that is read holds tells the status.
-    ensures complete { (command : Command) → (input output : List ℕ) → IsCommand (texts words.now) command input output → IsTrue (S.tells store.old)
+    // Where no fault is counted, what the files that are read hold tells the status.
+    ensures complete { (command : Command) → (inputs : List (List ℕ)) → (output : List ℕ) → IsCommand (texts words.now) command inputs output → IsTrue (S.tells store.old)
         → ¬ Rose (S.faults store.old) (S.faults store.new) → ¬ Rose (W.faults out.old) (W.faults out.new)
-        → Expected command (S.file store.old input) result }
+        → Expected command (reading (S.file store.old) inputs) result }
 
     // At a steady store no fault is counted, and wrong words ask nothing of any store.
     ensures steady { IsTrue (S.steady store.old) → S.faults store.new ≡ S.faults store.old }

@@ -5,3 +5,5 @@
 mod commands;
 #[cfg(test)]
 mod rewrite;
+#[cfg(test)]
+mod sets;

@@ -86,7 +86,7 @@ fn add_all(builder: &mut Builder, with_class: bool, with_contract: bool) -> Resu
     Ok(())
 }
 
-fn made(alloc: Global, with_class: bool, with_contract: bool) -> Result<Vec<u8>, Fault> {
+pub(crate) fn made(alloc: Global, with_class: bool, with_contract: bool) -> Result<Vec<u8>, Fault> {
     let mut builder = Builder::new(alloc)?;
     add_all(&mut builder, with_class, with_contract)?;
     finished(alloc, builder)
@@ -116,7 +116,7 @@ fn tables_of(alloc: Global, bytes: &[u8]) -> Option<Tables> {
 }
 
 /// Whether the two assemblies have the same rows, and the second stands in a larger image.
-fn has_the_rows(alloc: Global, old: &[u8], new: &[u8]) -> bool {
+pub(crate) fn has_the_rows(alloc: Global, old: &[u8], new: &[u8]) -> bool {
     match (tables_of(alloc, old), tables_of(alloc, new)) {
         (Some(before), Some(after)) => {
             let mut same = old.len() < new.len();

@@ -1,0 +1,102 @@
+// `rewrite` of an assembly with others that it refers to.
+
+use crate::commands::{listed, words_from};
+use crate::rewrite::{has_the_rows, made};
+use cil_base::{Fault, U32s};
+use outside_core::{MemSink, MemStore};
+use program::run_words;
+use std::alloc::{AllocError, Global};
+
+/// What stands under `b.dll`, beside an assembly with a class under `a.dll`.
+#[derive(Clone, Copy)]
+enum Other {
+    Missing,
+    Empty,
+    WithoutContracts,
+    WithContracts,
+}
+
+fn put_other(alloc: Global, store: &mut MemStore, other: Other) -> Result<(), Fault> {
+    match other {
+        Other::Missing => {}
+        Other::Empty => store.put_file("b.dll", b"")?,
+        Other::WithoutContracts => store.put_file("b.dll", &made(alloc, false, false)?)?,
+        Other::WithContracts => store.put_file("b.dll", &made(alloc, false, true)?)?,
+    }
+    Ok(())
+}
+
+/// Whether `rewrite --out OUT a.dll b.dll` answers this status and text, and where it is done OUT has
+/// the rows of `a.dll`.
+fn set_answers(
+    alloc: Global,
+    other: Other,
+    failing: Option<u32>,
+    out_name: &str,
+    want: (u8, &[u8]),
+) -> Result<bool, Fault> {
+    let target = made(alloc, true, false)?;
+    let mut store = MemStore::new(alloc, listed(alloc, failing)?);
+    store.put_file("a.dll", &target)?;
+    put_other(alloc, &mut store, other)?;
+    let mut out = MemSink::new(alloc, 100, U32s::new(alloc))?;
+    let words = words_from(alloc, &["rewrite", "--out", out_name, "a.dll", "b.dll"])?;
+    let status = run_words(alloc, words.as_slice(), &mut store, &mut out);
+    let is_told = status == want.0 && out.taken() == want.1;
+    if want.0 != 0 {
+        return Ok(is_told && store.file("a.dll") == Some(target.as_slice()));
+    }
+    match store.file(out_name) {
+        Some(new) => Ok(is_told && has_the_rows(alloc, &target, new)),
+        None => Ok(false),
+    }
+}
+
+#[test]
+fn sets_are_rewritten_or_refused(rt: HostRuntime) -> Result<(), Fault> {
+    let done = b"ok: 2 assemblies, 0 methods, 0 clauses\n".as_slice();
+    let contracts = b"refused: Z1 assembly 1 table 01 row 2 at 0\n".as_slice();
+    let no_image = b"refused: P1 assembly 1 table 00 row 0 at 0\n".as_slice();
+    let missing = b"store: b.dll\n".as_slice();
+    let cases: [(Other, Option<u32>, &str, (u8, &[u8])); 6] = [
+        (Other::WithoutContracts, None, "out", (0, done)),
+        (Other::WithoutContracts, None, "b.dll", (0, done)),
+        (Other::WithContracts, None, "out", (1, contracts)),
+        (Other::Empty, None, "out", (1, no_image)),
+        (Other::Missing, None, "out", (3, missing)),
+        (Other::WithoutContracts, Some(1), "out", (3, missing)),
+    ];
+    for (other, failing, out_name, want) in cases {
+        let told = set_answers(rt.alloc(), other, failing, out_name, want)?;
+        assert!(rt; told, "at status {}", want.0);
+    }
+    Ok(())
+}
+
+/// The words of a rewriting of so many assemblies.
+fn many_words(alloc: Global, count: u32) -> Result<Vec<String>, AllocError> {
+    let mut words = words_from(alloc, &["rewrite", "--out", "out"])?;
+    for _ in 0..count {
+        words.push(String::from_str(alloc, "a.dll")?)?;
+    }
+    Ok(words)
+}
+
+/// What is answered to so many assemblies where none is there: the status, and whether the text is
+/// this.
+fn many_answer(alloc: Global, count: u32, want: (u8, &[u8])) -> Result<bool, Fault> {
+    let mut store = MemStore::new(alloc, U32s::new(alloc));
+    let mut out = MemSink::new(alloc, 100, U32s::new(alloc))?;
+    let words = many_words(alloc, count)?;
+    let status = run_words(alloc, words.as_slice(), &mut store, &mut out);
+    Ok(status == want.0 && out.taken() == want.1)
+}
+
+#[test]
+fn a_set_has_at_most_64_assemblies(rt: HostRuntime) -> Result<(), Fault> {
+    let within = many_answer(rt.alloc(), 64, (3, b"store: a.dll\n"))?;
+    let limit = b"refused: L2 assembly 0 table 00 row 0 at 65\n".as_slice();
+    let past = many_answer(rt.alloc(), 65, (1, limit))?;
+    assert!(rt; within && past);
+    Ok(())
+}
