@@ -66,7 +66,7 @@ module _ (p : Program) (k : Contracts) (ms : List MethodDesc) (g : AddedNumbers)
   pub fits_in : (gr : Group) (j q : ℕ) (h : Frame) (fs : List Frame) → h.at ≡ InGroup gr j q → Pairs.Standing p k ms g r h fs → Unwinding.Fits p k ms g r gr h.thrown
   fits_in gr j q h fs e st = subst (λ a. Pairs.FitsAt (Unwinding.Fits p k ms g r) a h.thrown) e st.fits
 
-  no_waits : (m : ℕ) (gr : Group) (j q : ℕ) (a : ProgramPoint) (hs : List Rattle.cil_semantics.specs.declared.state.Handling.Handling) → a ≡ InGroup gr j q → hs ≡ [] → Waits (plan_at k p m) (mk m) (length (Rattle.cil_semantics.specs.Unwind.body_of p m).regions) a hs []
+  pub no_waits : (m : ℕ) (gr : Group) (j q : ℕ) (a : ProgramPoint) (hs : List Rattle.cil_semantics.specs.declared.state.Handling.Handling) → a ≡ InGroup gr j q → hs ≡ [] → Waits (plan_at k p m) (mk m) (length (Rattle.cil_semantics.specs.Unwind.body_of p m).regions) a hs []
   no_waits m gr j q a hs e e2 = subst (λ z. Waits (plan_at k p m) (mk m) (length (Rattle.cil_semantics.specs.Unwind.body_of p m).regions) z hs []) (sym e) (e2, refl)
 
   -- the condition is there: it holds and the piece is over, or it fails

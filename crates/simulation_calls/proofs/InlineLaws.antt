@@ -2,7 +2,9 @@
 use Rattle.std.proofs.Common.{◌≡◌, ℕ, suc, ◌+◌, ◌*◌, ◌<◌, ◌≤◌, Bool, true, false, List, [], ◌∷◌, length, Option, Some, None, refl, sym, ap, ◌∙◌, subst, arith, eqb-true, length-set}
 use Rattle.std.specs.Prelude.{◌==◌, ◌&&◌, if◌then◌else◌, option_and_then, slice_get, slice_set, is_some, IsTrue, codes}
 use Rattle.cil_model.specs.declared.ty.Ty.{Ty, out-Ty}
-use Rattle.cil_model.specs.declared.value.Value.{Value}
+use Rattle.cil_model.specs.declared.value.Value.{Value, out-Value}
+use Rattle.cil_model.specs.declared.value.Value as val
+use Rattle.cil_model.specs.declared.value.Pointer.{Pointer}
 use Rattle.cil_model.specs.declared.body.Instr.{Instr}
 use Rattle.cil_model.specs.declared.contract.ClauseKind.{ClauseKind}
 use Rattle.cil_model.specs.declared.contract.ClauseKind.TheVariants as kind
@@ -11,14 +13,14 @@ use Rattle.cil_model.specs.declared.contract.Group.{Group}
 use Rattle.cil_model.specs.declared.contract.Group.TheVariants as group
 use Rattle.cil_model.specs.declared.contract.Old.{Old}
 use Rattle.cil_model.specs.declared.program.Meaning.{Meaning}
-use Rattle.cil_model.specs.declared.program.Meaning.TheVariants.{OfMethod}
+use Rattle.cil_model.specs.declared.program.Meaning.TheVariants.{OfType, OfField, OfMethod, OfText, OfLocals}
 use Rattle.cil_model.specs.declared.program.Program.{Program}
 use Rattle.cil_model.specs.declared.program.MethodDesc.{MethodDesc}
 use Rattle.cil_model.specs.NoContracts.{no_contracts}
 use Rattle.cil_semantics.specs.Core.{Name}
 use Rattle.cil_semantics.specs.Lookups.{method_of}
-use Rattle.cil_semantics.specs.Tokens.{own_meaning}
-use Rattle.cil_semantics.specs.Places.{set_cell}
+use Rattle.cil_semantics.specs.Tokens.{own_meaning, meaning_here}
+use Rattle.cil_semantics.specs.Places.{storage, seen_as, set_cell}
 use Rattle.cil_semantics.specs.declared.state.Cell.{Cell}
 use Rattle.cil_semantics.specs.declared.state.Local.{Local as LocalState}
 use Rattle.cil_semantics.specs.declared.state.World.{World}
@@ -27,23 +29,26 @@ use Rattle.cil_semantics.specs.declared.state.ProgramPoint.{ProgramPoint}
 use Rattle.cil_semantics.specs.declared.state.ProgramPoint.TheVariants.{LeadIn, InGroup, Rest}
 use Rattle.cil_semantics.specs.declared.state.Handling.{Handling}
 use Rattle.cil_semantics.specs.declared.state.Frame.{Frame}
-use Rattle.cil_semantics.specs.State.{Next, pushed, with_stack, with_local}
+use Rattle.cil_semantics.specs.State.{Next, pushed, with_stack}
 use Rattle.cil_semantics.specs.declared.state.Continuation.{Continuation}
 use Rattle.cil_semantics.specs.Contracted.{Piece, Plan, rank}
-use Rattle.cil_semantics.specs.Unwind.{body_of, plan_at, piece_at, here_of, place_in, moved_to, next_place, goes_at, arrive_in, unwind}
-use Rattle.cil_semantics.specs.Frames.{stuck, if_there, go_on}
+use Rattle.cil_semantics.specs.Unwind.{body_of, plan_at, here_of, place_in, moved_to, next_place, goes_at, arrive_in, unwind}
+use Rattle.cil_semantics.specs.Frames.{stuck, if_there, read, load, go_on}
+use Rattle.cil_semantics.specs.Calls.{pointed}
 use Rattle.cil_semantics.specs.Returns.{returned, piece_over}
 use Rattle.cil_semantics.specs.ContractCalls.{is_called, condition_call, other_call, member_call, abbreviator_call, static_call, contract_call, has_message, takes_condition, takes_one, is_own, is_own_by_ref, is_contract}
 use Rattle.cil_semantics.specs.declared.contract_call.ContractCall.{ContractCall}
 use Rattle.cil_semantics.specs.declared.contract_call.ContractCall.TheVariants.{EndsClause, EndsBlock, Abbreviates, GivesResult, ReadsArgument, TakesOld, ChecksHere, NoContractCall}
 use Rattle.cil_semantics.specs.Types.{is_empty}
 use Rattle.cil_semantics.specs.Checks.{AddedNumbers, Failure, Condition, Sequel, condition_in, dropped, check, check_inline, capture, recalled, goes_on_from}
-use Rattle.cil_semantics.specs.Machine.{recall}
+use Rattle.cil_semantics.specs.Machine.{recall, read_argument}
 use Rattle.splice_facts.specs.Bodies.{with_methods}
 use Rattle.splice_facts.specs.Grown.{grow, beside}
-use Rattle.splice_facts.specs.WellFormed.{WellFormedObjects}
+use Rattle.splice_facts.specs.Comes.{Comes}
+use Rattle.splice_facts.specs.Input.{is_followed}
+use Rattle.splice_facts.specs.WellFormed.{WellFormedPointer, WellFormedValue, WellFormedValues}
 use Rattle.splice_facts.specs.Layout.{Marks, Keeps, IsHere, CanArrive}
-use Rattle.splice_facts.specs.Spliced.{Paired, Checked, IsInline, from_here, stands, failure_cost}
+use Rattle.splice_facts.specs.Spliced.{Paired, Checked, IsInline, from_here, stands, loaded_at, failure_cost}
 use Rattle.splice_facts.specs.Related.{Rewritten, HasResult, count_groups, in_group}
 use Rattle.splice_facts.specs.Related as Pairs
 use Rattle.simulation_calls.specs.Failures as Failing
@@ -54,6 +59,9 @@ use Rattle.simulation.proofs.PushLaws.{waits_moved, fits_moved}
 use Rattle.simulation.proofs.UnwindLaws as Unwinding
 use Rattle.simulation.proofs.UnwindLaws.{as_many, unwinds, unwinds_at}
 use Rattle.simulation_steps.proofs.ReturnLaws as Returning
+use Rattle.simulation_steps.proofs.PointerLaws.{reads, twins, stands_changed}
+use Rattle.simulation.proofs.ProgramLaws.{storage_same}
+use Rattle.splice_facts.proofs.ComesLaws.{comes_at_once}
 use Rattle.simulation_calls.proofs.CheckLaws as Checking
 use Rattle.simulation_calls.proofs.ClauseLaws as Clausing
 
@@ -114,6 +122,12 @@ call_checks p i =
     (either_checks (i.op == 0x6F) (abbreviator_call p (own_meaning p i.operand)) NoContractCall (abbreviator_checks p (own_meaning p i.operand)) no_checks)
 
 module _ (p : Program) (k : Contracts) (ms : List MethodDesc) (g : AddedNumbers) (r : Rewritten p k ms g) where
+  -- where a well-formed value points
+  pointer_fine : (v : Value) (q : Pointer) → WellFormedValue (Pairs.bounds p k ms g r) v → pointed (out-Value v) ≡ Some q → WellFormedPointer (Pairs.bounds p k ms g r) q
+  unfolding Rattle.cil_model.specs.declared.value.Value.out-Value denote.Hole.Carrier.out
+  pointer_fine (val.Ptr q0) q fine e = let y : q0 ≡ q = cc e in subst (WellFormedPointer (Pairs.bounds p k ms g r)) y fine
+  pointer_fine _ q fine e = absurd (cc e)
+
   abbrev p' : Program
   p' = with_methods p ms
 
@@ -141,6 +155,14 @@ module _ (p : Program) (k : Contracts) (ms : List MethodDesc) (g : AddedNumbers)
     scene : Paired p k p' g r.types r.depths (mk h.method) h fs fs' w ex ss
     scene = record { keeps = z.keeps; beside = z.alike; numbers = as_many p k ms g r h.continuation b' fs fs' z.under; deep = z.deep }
 
+    is_here : IsHere (Some c) h.at
+    is_here = subst (λ o. IsHere o h.at) z.plan z.here
+
+    -- the clause goes on behind a call that ends nothing
+    behind_call : (i : Instr) → slice_get x.clause.instrs q ≡ Some i → recalled x q ≡ None → is_followed (contract_call p i) ≡ true → CanArrive (Some c) (moved_to (place_in h.at + 1) h.at)
+    behind_call i ei un call =
+        subst (λ a. CanArrive (Some c) (moved_to (place_in a + 1) a)) (sym z.at) ((pieces_of p k ms g r h.method c z.plan (z.stands).old).goes_on gr j q x i (subst (IsHere (Some c)) z.at is_here) z.piece un ei call)
+
     over_with : (cells : List Cell) (rest : List Value) → length cells ≡ length h.local.captured
         → To (4 * cst + lay (suc (suc (length fs)))) (piece_over p k c gr j (record h { local = record h.local { captured = cells; stack = rest } }) fs w) (stands p k p' g r.types r.depths h (record h.local { captured = cells; stack = rest }) ex ((mk h.method).behind gr j) b' fs' w ss)
     over_with cells rest same =
@@ -161,7 +183,7 @@ module _ (p : Program) (k : Contracts) (ms : List MethodDesc) (g : AddedNumbers)
 
     pub captures_old : (n : ℕ) (i : Instr) → x.captures ≡ Some n → slice_get x.clause.instrs q ≡ Some i → contract_call p i ≡ TakesOld → To (cst + (4 * cst + lay (suc (suc (length fs))))) (capture p k c gr j n h h.local.stack fs w) (from h ex b' fs' w ss [])
     captures_old n i en ei call =
-        Unwinding.reach_by p k ms g r cst (4 * cst + lay (suc (suc (length fs)))) _ _ _ ((groups_of p k ms g r h.method c z.plan (z.stands).old).takes gr j q x i n h fs fs' w ex ss b' refl z.at z.piece en ei call scene) (by_stack h.local.stack)
+        Unwinding.reach_by p k ms g r cst (4 * cst + lay (suc (suc (length fs)))) _ _ _ ((groups_of p k ms g r h.method c z.plan (z.stands).old).takes gr j q x i n h fs fs' w ex ss b' refl z.at is_here z.piece en ei call scene) (by_stack h.local.stack)
       where
         kept : List Value → Next
         kept vs = Rattle.splice_facts.specs.Spliced.kept_in p k p' g r.types r.depths vs n h ex b' fs' w ss ((mk h.method).behind gr j)
@@ -185,34 +207,100 @@ module _ (p : Program) (k : Contracts) (ms : List MethodDesc) (g : AddedNumbers)
     is_there t (LeadIn a) e can = absurd (cc e)
     is_there t (Rest a) e can = absurd (cc e)
 
-    goes_in_piece : (t : ℕ) (v : Value) → CanArrive (Some c) (moved_to t h.at) → Rattle.splice_facts.specs.Comes.Comes p' cst (from h ex b' fs' w ss []) (stands p k p' g r.types r.depths h (pushed v h.local) ex ((mk h.method).places (moved_to t h.at)) b' fs' w ss)
-        → To (cst + lay (suc (length fs))) (arrive_in p (plan_at k p h.method) h (moved_to t h.at) (pushed v h.local) h.handling fs w) (from h ex b' fs' w ss [])
-    goes_in_piece t v can comes =
-        subst (λ y. To (cst + lay (suc (length fs))) y (from h ex b' fs' w ss [])) (sym (ap (λ o. arrive_in p o h (moved_to t h.at) (pushed v h.local) h.handling fs w) z.plan ∙ in_piece t (pushed v h.local) h.at z.at))
-        (Arriving.arrives_here p k ms g r cst (from h ex b' fs' w ss []) h (moved_to t h.at) (pushed v h.local) b' fs fs' w (z.stands).old (subst (λ o. IsHere o (moved_to t h.at)) (sym z.plan) (is_there t h.at z.at can))
-        (record { extra = ex; keeps = record { typed = (z.keeps).typed; result = (z.keeps).result; thrown = (z.keeps).thrown; wide = (z.keeps).wide; caps = (z.keeps).caps }; statics = ss; beside = z.alike; comes = comes }) z.under)
+    -- with another stack
+    kept_with : (l : LocalState) → l ≡ with_stack h.local l.stack → Keeps (mk h.method) (here_of h fs) h.thrown l ex
+    kept_with l e =
+        subst (λ y. Keeps (mk h.method) (here_of h fs) h.thrown y ex) (sym e)
+        (record { typed = (z.keeps).typed; result = (z.keeps).result; thrown = (z.keeps).thrown; wide = (z.keeps).wide; caps = (z.keeps).caps })
+
+    goes_in_piece : (n : ℕ) (start : Next) (t : ℕ) (l : LocalState) → l ≡ with_stack h.local l.stack → CanArrive (Some c) (moved_to t h.at) → Comes p' n start (stands p k p' g r.types r.depths h l ex ((mk h.method).places (moved_to t h.at)) b' fs' w ss)
+        → To (n + lay (suc (length fs))) (arrive_in p (plan_at k p h.method) h (moved_to t h.at) l h.handling fs w) start
+    goes_in_piece n start t l e can comes =
+        subst (λ y. To (n + lay (suc (length fs))) y start) (sym (ap (λ o. arrive_in p o h (moved_to t h.at) l h.handling fs w) z.plan ∙ in_piece t l h.at z.at))
+        (Arriving.arrives_here p k ms g r n start h (moved_to t h.at) l b' fs fs' w (z.stands).old (subst (λ o. IsHere o (moved_to t h.at)) (sym z.plan) (is_there t h.at z.at can)) (record { extra = ex; keeps = kept_with l e; statics = ss; beside = z.alike; comes = comes }) z.under)
 
     pub recalls_old : (o : ℕ × Old) (v : Cell) → recalled x q ≡ Some o → slice_get h.local.captured (x.first_captured + o.0) ≡ Some v → To (cst + lay (suc (length fs))) (recall p k g x o h fs w) (from h ex b' fs' w ss [])
     recalls_old o v eo ev =
-        let a = (groups_of p k ms g r h.method c z.plan (z.stands).old).recalls gr j q x o v h fs fs' w ex ss b' refl z.at z.piece eo ev scene in
-        subst (λ y. To (cst + lay (suc (length fs))) (if_there y w (λ (cell : Cell). arrive_in p (plan_at k p h.method) h (moved_to (o.1.to + 1) h.at) (pushed cell.value h.local) h.handling fs w)) (from h ex b' fs' w ss [])) (sym ev) (goes_in_piece (o.1.to + 1) v.value a.0 a.1)
+        let a = (groups_of p k ms g r h.method c z.plan (z.stands).old).recalls gr j q x o v h fs fs' w ex ss b' refl z.at is_here z.piece eo ev scene in
+        subst (λ y. To (cst + lay (suc (length fs))) (if_there y w (λ (cell : Cell). arrive_in p (plan_at k p h.method) h (moved_to (o.1.to + 1) h.at) (pushed cell.value h.local) h.handling fs w)) (from h ex b' fs' w ss [])) (sym ev) (goes_in_piece cst _ (o.1.to + 1) (pushed v.value h.local) refl a.0 a.1)
 
-    pub gives_result : (i : Instr) → slice_get x.clause.instrs q ≡ Some i → contract_call p i ≡ GivesResult → HasResult p h h.at → CanArrive (Some c) (next_place h.at) → To (cst + lay (suc (length fs))) (if_there h.local.result w (λ v. go_on p k h (pushed v h.local) fs w)) (from h ex b' fs' w ss [])
-    gives_result i ei call has can = by_result h.local.result refl
+    pub gives_result : (i : Instr) → slice_get x.clause.instrs q ≡ Some i → contract_call p i ≡ GivesResult → HasResult p h h.at → recalled x q ≡ None → To (cst + lay (suc (length fs))) (if_there h.local.result w (λ v. go_on p k h (pushed v h.local) fs w)) (from h ex b' fs' w ss [])
+    gives_result i ei call has un = by_result h.local.result refl
       where
         facts : (gr ≡ group.Exit) × (returned p h [] ≡ None)
-        facts = (pieces_of p k ms g r h.method c z.plan (z.stands).old).has_result gr j q x i h fs refl z.at z.piece ei call
+        facts = (pieces_of p k ms g r h.method c z.plan (z.stands).old).has_result gr j q x i h fs refl z.at (subst (IsHere (Some c)) z.at is_here) z.piece ei call
 
         is_there_now : IsTrue (is_some h.local.result)
         is_there_now = subst (λ y. HasResult p h (InGroup y j q)) facts.0 (subst (HasResult p h) z.at has) facts.1
 
         by_result : (o : Option Value) → h.local.result ≡ o → To (cst + lay (suc (length fs))) (if_there o w (λ v. go_on p k h (pushed v h.local) fs w)) (from h ex b' fs' w ss [])
         by_result None e = absurd (cc (sym (ap is_some e) ∙ is_there_now))
-        by_result (Some v) e = goes_in_piece (place_in h.at + 1) v can ((groups_of p k ms g r h.method c z.plan (z.stands).old).results gr j q x i v h fs fs' w ex ss b' refl z.at z.piece ei call e scene)
+        by_result (Some v) e = goes_in_piece cst _ (place_in h.at + 1) (pushed v h.local) refl (behind_call i ei un (ap is_followed call)) ((groups_of p k ms g r h.method c z.plan (z.stands).old).results gr j q x i v h fs fs' w ex ss b' refl z.at is_here z.piece ei call e scene)
+
+    -- what stands where a pointer leads, from the frame with this stack
+    same_read : (rest : List Value) (y : Pointer) → WellFormedPointer (Pairs.bounds p k ms g r) y
+        → read p' (Unwinding.tw p k ms g r h (with_stack h.local rest) ex ((mk h.method).places h.at) [] b' ∷ fs') (beside ss w) y ≡ read p (record h { local = with_stack h.local rest } ∷ fs) w y
+    same_read rest y fine =
+        reads p k ms g r (record h { local = with_stack h.local rest } ∷ fs) (Unwinding.tw p k ms g r h (with_stack h.local rest) ex ((mk h.method).places h.at) [] b' ∷ fs') w ss y fine
+        (stands_changed p k ms g r h fs (with_stack h.local rest) z.stands refl, z.others)
+        (ex, refl, refl, as_many p k ms g r h.continuation b' fs fs' z.under, twins p k ms g r h.continuation b' fs fs' z.under) z.alike
+
+    pub loads_through : (i : Instr) → slice_get x.clause.instrs q ≡ Some i → contract_call p i ≡ ReadsArgument → recalled x q ≡ None → WellFormedValues (Pairs.bounds p k ms g r) h.local.stack
+        → To (cst + lay (suc (length fs))) (read_argument p k g (meaning_here p (here_of h fs) i) h.local.stack h fs w) (from h ex b' fs' w ss [])
+    loads_through i ei call un fine =
+        Unwinding.reach_by p k ms g r cst (lay (suc (length fs))) _ _ _ ((groups_of p k ms g r h.method c z.plan (z.stands).old).loads gr j q x i h fs fs' w ex ss b' refl z.at is_here z.piece un ei call scene) (by_meaning (meaning_here p (here_of h fs) i) h.local.stack fine)
+      where
+        L : List Value → LocalState
+        L rest = with_stack h.local rest
+
+        T : List Value → Frame
+        T rest = Unwinding.tw p k ms g r h (L rest) ex ((mk h.method).places h.at) [] b'
+
+        pushes_so : List Value → Value → Next
+        pushes_so rest v = stands p k p' g r.types r.depths h (pushed v (L rest)) ex ((mk h.method).places (next_place h.at)) b' fs' w ss
+
+        stuck_too : To (lay (suc (length fs))) (stuck w) (stuck (beside ss w))
+        stuck_too = Arriving.stuck_both p k ms g r _ w ss z.alike
+
+        by_read : (rest : List Value) (o : Option Value) → To (lay (suc (length fs))) (if_there o w (λ v. go_on p k h (pushed v (L rest)) fs w)) (if_there o (beside ss w) (pushes_so rest))
+        by_read rest None = stuck_too
+        by_read rest (Some v) =
+            Unwinding.reach_within p k ms g r (0 + lay (suc (length fs))) _ _ _ (omega arith)
+            (goes_in_piece 0 (pushes_so rest v) (place_in h.at + 1) (pushed v (L rest)) refl (behind_call i ei un (ap is_followed call)) (comes_at_once p' 0 _ _ refl))
+
+        by_pointer : (t : Ty) (rest : List Value) (o : Option Pointer) → ((y : Pointer) → o ≡ Some y → WellFormedPointer (Pairs.bounds p k ms g r) y)
+            → To (lay (suc (length fs))) (if_there o w (λ y. load p k y (storage p t) h (L rest) fs w)) (if_there o (beside ss w) (λ y. if_there (option_and_then (seen_as (storage p' t)) (read p' (T rest ∷ fs') (beside ss w) y)) (beside ss w) (pushes_so rest)))
+        by_pointer t rest None there = stuck_too
+        by_pointer t rest (Some y) there =
+            subst (λ a. To (lay (suc (length fs))) (load p k y (storage p t) h (L rest) fs w) (if_there (option_and_then (seen_as a) (read p' (T rest ∷ fs') (beside ss w) y)) (beside ss w) (pushes_so rest))) (sym (storage_same p ms t))
+            (subst (λ a. To (lay (suc (length fs))) (load p k y (storage p t) h (L rest) fs w) (if_there (option_and_then (seen_as (storage p t)) a) (beside ss w) (pushes_so rest))) (sym (same_read rest y (there y refl)))
+            (by_read rest (option_and_then (seen_as (storage p t)) (read p (record h { local = L rest } ∷ fs) w y))))
+
+        by_stack : (owner : Ty) (m : ℕ) (t : Ty) (ts : List Ty) (st : List Value) → WellFormedValues (Pairs.bounds p k ms g r) st → To (lay (suc (length fs))) (read_argument p k g (Some (OfMethod owner m (t ∷ ts))) st h fs w) (loaded_at p k p' g r.types r.depths (mk h.method) (Some (OfMethod owner m (t ∷ ts))) st h ex b' fs' w ss)
+        by_stack owner m t ts [] f = stuck_too
+        by_stack owner m t ts (v ∷ rest) f = by_pointer t rest (pointed (out-Value v)) (λ y e. pointer_fine v y f.0 e)
+
+        by_meaning : (o : Option Meaning) (st : List Value) → WellFormedValues (Pairs.bounds p k ms g r) st → To (lay (suc (length fs))) (read_argument p k g o st h fs w) (loaded_at p k p' g r.types r.depths (mk h.method) o st h ex b' fs' w ss)
+        by_meaning (Some (OfMethod owner m (t ∷ ts))) st f = by_stack owner m t ts st f
+        by_meaning (Some (OfMethod owner m [])) st f = stuck_too
+        by_meaning None st f = stuck_too
+        by_meaning (Some (OfType t)) st f = stuck_too
+        by_meaning (Some (OfField owner n)) st f = stuck_too
+        by_meaning (Some (OfText units)) st f = stuck_too
+        by_meaning (Some (OfLocals ts)) st f = stuck_too
 
   -- ---- Assert and Assume
 
   module _ (c : Plan) (i : Instr) (kd : ClauseKind) (label : Name) (home : ℕ) (h : Frame) (ex : List Cell) (b' : Continuation) (hs' : List Handling) (fs fs' : List Frame) (w : World) (ss : List Statics) (z : Inline.AtCheck p k ms g r c h ex b' hs' fs fs' w ss) (is : IsInline p k p' g r.types r.depths c h.method h fs h.at i kd home label) where
+    -- there is a place behind the call: in lead-in and rest by counting, in a clause by the rules
+    next : CanArrive (Some c) (next_place h.at)
+    next = by_place h.at z.here z.unrecalled is
+      where
+        by_place : (at : ProgramPoint) → IsHere (Some c) at → Inline.NotRecalled p k ms g r c at → IsInline p k p' g r.types r.depths c h.method h fs at i kd home label → CanArrive (Some c) (next_place at)
+        by_place (LeadIn q) here un y = omega (arith, here)
+        by_place (Rest q) here un y = omega (arith, here)
+        by_place (InGroup gr j q) here un y = (pieces_of p k ms g r h.method c z.plan (z.stands).old).goes_on gr j q y.0 i here y.1 (un y.0 y.1) y.2 (ap is_followed y.3)
+
     at_check : Paired p k p' g r.types r.depths (mk h.method) h fs fs' w ex ss
     at_check = record { keeps = z.keeps; beside = z.alike; numbers = as_many p k ms g r h.continuation b' fs fs' z.under; deep = z.deep }
 
@@ -220,7 +308,7 @@ module _ (p : Program) (k : Contracts) (ms : List MethodDesc) (g : AddedNumbers)
     goes_behind : (l : LocalState) (after : List Cell) (v : World) (ss2 : List Statics) → Keeps (mk h.method) (here_of h fs) h.thrown l after → IsBeside v ss2 → v.depth ≤ suc k.settings.guard
         → To (cst + lay (suc (length fs))) (go_on p k h l fs v) (goes_at p' (Unwinding.tw p k ms g r h l after ((mk h.method).places (next_place h.at)) hs' b') (Rest ((mk h.method).places (next_place h.at))) (grow after l) hs' fs' (beside ss2 v))
     goes_behind l after v ss2 keeps bes deep =
-        Arriving.arrives p k ms g r (plan_at k p h.method) h (next_place h.at) l l after h.handling hs' hs' ((mk h.method).places (next_place h.at)) b' fs fs' v ss2 refl (z.stands).old (subst (λ o. CanArrive o (next_place h.at)) (sym z.plan) z.next) (fits_moved (Unwinding.Fits p k ms g r) h.at (place_in h.at + 1) h.thrown (z.stands).fits)
+        Arriving.arrives p k ms g r (plan_at k p h.method) h (next_place h.at) l l after h.handling hs' hs' ((mk h.method).places (next_place h.at)) b' fs fs' v ss2 refl (z.stands).old (subst (λ o. CanArrive o (next_place h.at)) (sym z.plan) next) (fits_moved (Unwinding.Fits p k ms g r) h.at (place_in h.at + 1) h.thrown (z.stands).fits)
         keeps (waits_moved (plan_at k p h.method) (mk h.method) (length (body_of p h.method).regions) h.at (place_in h.at + 1) h.handling hs' z.waits) bes (as_many p k ms g r h.continuation b' fs fs' z.under) deep z.under
 
     abbrev failure_here : Value → Failure

@@ -23,7 +23,6 @@ use Rattle.splice_facts.specs.Input.{top_of}
 use Rattle.splice_facts.specs.Layout.{fetch}
 use Rattle.splice_facts.specs.Spliced.{has_exit, Current, from_here, cost}
 use Rattle.splice_facts.specs.Related.{Rewritten, written, bounds, ReachesIn, per_frame, TopPair, count_groups}
-use Rattle.simulation_steps.specs.Steps.{BesideIn}
 
 module _ (p : Program) (k : Contracts) (ms : List MethodDesc) (g : AddedNumbers) (r : Rewritten p k ms g) where
   -- a frame outside of groups that returns

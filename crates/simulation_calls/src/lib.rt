@@ -8,7 +8,7 @@ ghost use Rattle.cil_model.specs.declared.program.MethodDesc.{MethodDesc};
 ghost use Rattle.cil_model.specs.declared.program.Program.{Program};
 ghost use Rattle.cil_semantics.specs.Checks.{AddedNumbers};
 ghost use Rattle.splice_facts.specs.Related.{Rewritten};
-ghost use Rattle.simulation_calls.specs.Inline.{CapturesAlike, RecallsAlike, ResultsAlike, ChecksHereAlike};
+ghost use Rattle.simulation_calls.specs.Inline.{CapturesAlike, RecallsAlike, ResultsAlike, LoadsAlike, ChecksHereAlike};
 ghost use Rattle.simulation_calls.specs.Rets.{RetsAtOnce, RetsLifted};
 ghost use Rattle.simulation_calls.specs.Failures.{FailsAlike, ClausesEndAlike};
 
@@ -26,11 +26,13 @@ pub fn clauses_go_alike()
     ensures conditions { (p : Program) (k : Contracts) (ms : List MethodDesc) (g : AddedNumbers) (r : Rewritten p k ms g) → ClausesEndAlike p k ms g r }
 {}
 
-/// Over a written program old values are captured and recalled alike, a clause finds what is returned,
-/// and Assert and Assume are checked, or passed over, alike where they stand.
+/// Over a written program old values are captured and recalled alike, a clause finds what is returned
+/// and what a by-reference argument leads to, and Assert and Assume are checked, or passed over, alike
+/// where they stand.
 pub fn inline_calls_go_alike()
     ensures captures { (p : Program) (k : Contracts) (ms : List MethodDesc) (g : AddedNumbers) (r : Rewritten p k ms g) → CapturesAlike p k ms g r }
     ensures recalls { (p : Program) (k : Contracts) (ms : List MethodDesc) (g : AddedNumbers) (r : Rewritten p k ms g) → RecallsAlike p k ms g r }
     ensures results { (p : Program) (k : Contracts) (ms : List MethodDesc) (g : AddedNumbers) (r : Rewritten p k ms g) → ResultsAlike p k ms g r }
+    ensures loads { (p : Program) (k : Contracts) (ms : List MethodDesc) (g : AddedNumbers) (r : Rewritten p k ms g) → LoadsAlike p k ms g r }
     ensures checks { (p : Program) (k : Contracts) (ms : List MethodDesc) (g : AddedNumbers) (r : Rewritten p k ms g) → ChecksHereAlike p k ms g r }
 {}

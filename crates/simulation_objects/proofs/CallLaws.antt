@@ -81,7 +81,7 @@ module _ (p : Program) (k : Contracts) (ms : List MethodDesc) (g : AddedNumbers)
   abbrev valid : List Frame → Type 0
   valid fs = Pairs.AllStand p k ms g r fs
 
-  exception_same : (t : Ty) → is_core_exception p' t ≡ is_core_exception p t
+  pub exception_same : (t : Ty) → is_core_exception p' t ≡ is_core_exception p t
   exception_same t = ap (λ b. any (λ (row : Name × Ty). is_named row.0 (ty_name p t)) core_classes && b) (sub_same p ms t (class_named (codes "System.Exception")))
 
   pub core_same : (owner : Ty) (m : ℕ) → core_of p' owner m ≡ core_of p owner m

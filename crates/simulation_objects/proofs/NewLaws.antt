@@ -134,12 +134,11 @@ module _ (p : Program) (k : Contracts) (ms : List MethodDesc) (g : AddedNumbers)
 
   -- an object with its fields at their default values, whose constructor's frame goes on so in each run
   makes_object : (t : Ty) (m : ℕ) (values : List Value) (b b' : Continuation) (fs fs' : List Frame) (w : World) (ss : List Statics) → m < r.methods → IsTrue (is_below r.types t) → Under p k ms g r b b' fs fs' → hasnt_begun b ≡ false → hasnt_begun b' ≡ false → Pairs.AllStand p k ms g r fs → IsBeside w ss → w.depth ≤ suc k.settings.guard → w.depth ≡ count_groups fs
-      → To (big (length fs)) (enter p k t m [] (Obj (next_object w) ∷ values) b fs (with_object p (new_object t (default_cells p (map (λ (x : ℕ × Ty). x.1) (layout p t)))) w)) (enter p' no_contracts t m [] (Obj (next_object w) ∷ values) b' fs' (with_object p' (new_object t (default_cells p' (map (λ (x : ℕ × Ty). x.1) (layout p' t)))) (beside ss w)))
+      → To (cst + lay (suc (suc (length fs)))) (enter p k t m [] (Obj (next_object w) ∷ values) b fs (with_object p (new_object t (default_cells p (map (λ (x : ℕ × Ty). x.1) (layout p t)))) w)) (enter p' no_contracts t m [] (Obj (next_object w) ∷ values) b' fs' (with_object p' (new_object t (default_cells p' (map (λ (x : ℕ × Ty). x.1) (layout p' t)))) (beside ss w)))
   makes_object t m values b b' fs fs' w ss old a under nb nb' ok bes deep count =
-      subst (λ cs. To (big (length fs)) first (enter p' no_contracts t m [] (Obj (next_object w) ∷ values) b' fs' (with_object p' (new_object t cs) (beside ss w)))) (sym (fields_same t))
-      (subst (λ u. To (big (length fs)) first (enter p' no_contracts t m [] (Obj (next_object w) ∷ values) b' fs' u)) (sym (with_object_same p ms (new_object t cells) (beside ss w)))
-      (Unwinding.reach_within p k ms g r (cst + lay (suc (suc (length fs)))) _ _ _ (omega arith)
-      (Entering.enters p k ms g r t m [] (Obj (next_object w) ∷ values) b b' fs fs' (with_object p (new_object t cells) w) ss old a under nb nb' ok (one_more (new_object t cells) w ss bes) deep count)))
+      subst (λ cs. To (cst + lay (suc (suc (length fs)))) first (enter p' no_contracts t m [] (Obj (next_object w) ∷ values) b' fs' (with_object p' (new_object t cs) (beside ss w)))) (sym (fields_same t))
+      (subst (λ u. To (cst + lay (suc (suc (length fs)))) first (enter p' no_contracts t m [] (Obj (next_object w) ∷ values) b' fs' u)) (sym (with_object_same p ms (new_object t cells) (beside ss w)))
+      (Entering.enters p k ms g r t m [] (Obj (next_object w) ∷ values) b b' fs fs' (with_object p (new_object t cells) w) ss old a under nb nb' ok (one_more (new_object t cells) w ss bes) deep count))
     where
       cells : List Cell
       cells = default_cells p (map (λ (x : ℕ × Ty). x.1) (layout p t))
@@ -155,7 +154,9 @@ module _ (p : Program) (k : Contracts) (ms : List MethodDesc) (g : AddedNumbers)
       second b = if b then enter p' no_contracts t m [] (Obj (next_object w) ∷ values) (PushObject (Obj (next_object w))) fs' (with_object p' (new_object t (default_cells p' (map (λ (x : ℕ × Ty). x.1) (layout p' t)))) (beside ss w)) else enter_struct p' no_contracts t m [] values fs' (beside ss w)
 
       by_test : (b : Bool) → To (big (length fs)) (if b then enter p k t m [] (Obj (next_object w) ∷ values) (PushObject (Obj (next_object w))) fs (with_object p (new_object t (default_cells p (map (λ (x : ℕ × Ty). x.1) (layout p t)))) w) else enter_struct p k t m [] values fs w) (second b)
-      by_test true = makes_object t m values (PushObject (Obj (next_object w))) (PushObject (Obj (next_object w))) fs fs' w ss old a (Delegating.waits_too p k ms g r Push Push (PushObject (Obj (next_object w))) fs fs' tt tt z.under) refl refl z.others z.alike z.deep z.count
+      by_test true =
+          Unwinding.reach_within p k ms g r (cst + lay (suc (suc (length fs)))) _ _ _ (omega arith)
+          (makes_object t m values (PushObject (Obj (next_object w))) (PushObject (Obj (next_object w))) fs fs' w ss old a (Delegating.waits_too p k ms g r Push Push (PushObject (Obj (next_object w))) fs fs' tt tt z.under) refl refl z.others z.alike z.deep z.count)
       by_test false =
           Unwinding.reach_within p k ms g r (cst + lay (suc (suc (length fs)))) _ _ _ (omega arith)
           (Entering.enters_struct p k ms g r t m [] values fs fs' w ss old a (Delegating.waits_too p k ms g r Push Push PushStruct fs fs' tt tt z.under) z.others z.alike z.deep z.count)
@@ -187,12 +188,12 @@ module _ (p : Program) (k : Contracts) (ms : List MethodDesc) (g : AddedNumbers)
 
   -- The exception of a failed Requires<E>: its constructor's frame throws it in the first run when it returns; in the plain run it pushes the object, which the next instruction throws.
   pub makes_own_exception : (t : Ty) (m : ℕ) (values : List Value) (fs fs' : List Frame) (w : World) (ss : List Statics) → m < r.methods → IsTrue (is_below r.types t) → is_reference (storage p t) ≡ true → Under p k ms g r (ThrowObject (next_object w)) (PushObject (Obj (next_object w))) fs fs' → Pairs.AllStand p k ms g r fs → IsBeside w ss → w.depth ≤ suc k.settings.guard → w.depth ≡ count_groups fs
-      → To (big (length fs)) (make_own p k (throws_new p k) t m values fs w) (make_own p' no_contracts (pushes_new p' no_contracts) t m values fs' (beside ss w))
+      → To (cst + lay (suc (suc (length fs)))) (make_own p k (throws_new p k) t m values fs w) (make_own p' no_contracts (pushes_new p' no_contracts) t m values fs' (beside ss w))
   unfolding Rattle.cil_model.specs.declared.value.Value.out-Value denote.Hole.Carrier.out
   makes_own_exception t m values fs fs' w ss old a ref under ok bes deep count =
-      subst (λ b. To (big (length fs)) (first b) (second (is_reference (storage p' t)))) (sym ref)
-      (subst (λ h. To (big (length fs)) (first true) (second (is_reference h))) (sym (storage_same p ms t))
-      (subst (λ b. To (big (length fs)) (first true) (second b)) (sym ref)
+      subst (λ b. To (cst + lay (suc (suc (length fs)))) (first b) (second (is_reference (storage p' t)))) (sym ref)
+      (subst (λ h. To (cst + lay (suc (suc (length fs)))) (first true) (second (is_reference h))) (sym (storage_same p ms t))
+      (subst (λ b. To (cst + lay (suc (suc (length fs)))) (first true) (second b)) (sym ref)
       (makes_object t m values (ThrowObject (next_object w)) (PushObject (Obj (next_object w))) fs fs' w ss old a under refl refl ok bes deep count)))
     where
       first : Bool → Next

@@ -90,7 +90,7 @@ module _ (p : Program) (k : Contracts) (ms : List MethodDesc) (g : AddedNumbers)
   no_handling m (InGroup gr j q) hs hs' e x = x.1
 
   -- the plain run pushes the exception and throws it
-  makes_throw : (x q : ℕ) (h h' : Frame) (fs fs' : List Frame) (w : World) (ss : List Statics) → FramePair p k ms g r q h fs h' → IsHere (plan_at k p h.method) h.at → Pairs.Throws_here p k ms g r h q x → below h.continuation h'.continuation fs fs' → Pairs.Standing p k ms g r h fs → valid fs → IsBeside w ss → w.depth ≤ suc k.settings.guard → w.depth ≡ in_group h.at + count_groups fs
+  pub makes_throw : (x q : ℕ) (h h' : Frame) (fs fs' : List Frame) (w : World) (ss : List Statics) → FramePair p k ms g r q h fs h' → IsHere (plan_at k p h.method) h.at → Pairs.Throws_here p k ms g r h q x → below h.continuation h'.continuation fs fs' → Pairs.Standing p k ms g r h fs → valid fs → IsBeside w ss → w.depth ≤ suc k.settings.guard → w.depth ≡ in_group h.at + count_groups fs
       → To (3 * cst + lay (suc (length fs))) (unwind p k false (h ∷ fs) w x) (push_below p' no_contracts (Some (Obj x)) (h' ∷ fs') (beside ss w))
   makes_throw x q h h' fs fs' w ss pair here t under st ok bes deep count =
       let none = no_handling h.method h.at h.handling h'.handling t.in_group pair.waits in

@@ -27,7 +27,7 @@ with_frames fs (Threw x gs w) = Threw x fs w
 with_frames fs (Unfit w) = Unfit w
 
 module _ (p : Program) (m : Member) where
-  thrown_frames : (name : Name) (fs : List Frame) (w u : World) → thrown_out p name fs w (Unfit u) ≡ with_frames fs (thrown_out p name [] w (Unfit u))
+  pub thrown_frames : (name : Name) (fs : List Frame) (w u : World) → thrown_out p name fs w (Unfit u) ≡ with_frames fs (thrown_out p name [] w (Unfit u))
   thrown_frames name fs w u = by_test (is_sub p (class_named name) (class_named (codes "System.Exception")))
     where
       by_test : (t : Bool) → (if t then Threw (next_object w) fs (with_object p (record { ty = class_named name; cells = [] }) w) else Unfit u) ≡ with_frames fs (if t then Threw (next_object w) [] (with_object p (record { ty = class_named name; cells = [] }) w) else Unfit u)

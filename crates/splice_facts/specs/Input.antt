@@ -24,8 +24,9 @@ use Rattle.cil_semantics.specs.Unwind.{body_of, piece_at, moved_to, next_place, 
 use Rattle.cil_semantics.specs.Frames.{clause_tys, first_place}
 use Rattle.cil_semantics.specs.Returns.{returned}
 use Rattle.cil_semantics.specs.ContractCalls.{contract_call, has_message}
-use Rattle.cil_semantics.specs.declared.contract_call.ContractCall.TheVariants.{GivesResult, ChecksHere}
-use Rattle.cil_semantics.specs.Checks.{AddedNumbers, dropped}
+use Rattle.cil_semantics.specs.declared.contract_call.ContractCall.{ContractCall}
+use Rattle.cil_semantics.specs.declared.contract_call.ContractCall.TheVariants.{GivesResult, ReadsArgument, ChecksHere}
+use Rattle.cil_semantics.specs.Checks.{AddedNumbers, dropped, recalled}
 use Rattle.splice_facts.specs.Grown.{NamesLocals}
 use Rattle.splice_facts.specs.Layout.{fetch, stands_in, IsHere, CanArrive, LeadsOn}
 use Rattle.cil_model.specs.declared.body.RegionKind.{RegionKind}
@@ -66,12 +67,20 @@ never_in_clause class.EndFinally = true
 never_in_clause class.Rethrow = true
 never_in_clause _ = false
 
+-- a contract call behind which its clause goes on: it ends neither a clause nor an old value
+abbrev pub is_followed : ContractCall → Bool
+is_followed GivesResult = true
+is_followed ReadsArgument = true
+is_followed (ChecksHere kd) = true
+is_followed _ = false
+
 module _ (p : Program) (k : Contracts) (g : AddedNumbers) where
-  -- Of the pieces of a plan: each begins in its clause and holds no instruction that leaves it; Result stands where a value is returned.
+  -- Of the pieces of a plan: each begins in its clause and holds no instruction that leaves it; Result stands where a value is returned; a call of a clause that isn't its last instruction has a place behind it.
   pub record PieceFacts (me : ℕ) (plan : Plan) : Type 0 where
     pub begins_in : (gr : Group) (j : ℕ) (x : Piece) → piece_at (Some plan) gr j ≡ Some x → (x.from < length x.clause.instrs) × IsTrue (stands_in x x.from)
     pub no_such : (gr : Group) (j q : ℕ) (i : Instr) → IsHere (Some plan) (InGroup gr j q) → fetch p k g (Some plan) me (InGroup gr j q) ≡ Some i → never_in_clause (class_of i.op) ≡ false
-    pub has_result : (gr : Group) (j q : ℕ) (x : Piece) (i : Instr) (f : Frame) (fs : List Frame) → f.method ≡ me → f.at ≡ InGroup gr j q → piece_at (Some plan) gr j ≡ Some x → slice_get x.clause.instrs q ≡ Some i → contract_call p i ≡ GivesResult → (gr ≡ group.Exit) × (returned p f [] ≡ None)
+    pub has_result : (gr : Group) (j q : ℕ) (x : Piece) (i : Instr) (f : Frame) (fs : List Frame) → f.method ≡ me → f.at ≡ InGroup gr j q → IsHere (Some plan) (InGroup gr j q) → piece_at (Some plan) gr j ≡ Some x → slice_get x.clause.instrs q ≡ Some i → contract_call p i ≡ GivesResult → (gr ≡ group.Exit) × (returned p f [] ≡ None)
+    pub goes_on : (gr : Group) (j q : ℕ) (x : Piece) (i : Instr) → IsHere (Some plan) (InGroup gr j q) → piece_at (Some plan) gr j ≡ Some x → recalled x q ≡ None → slice_get x.clause.instrs q ≡ Some i → is_followed (contract_call p i) ≡ true → IsHere (Some plan) (InGroup gr j (q + 1))
 
   abbrev pub PiecesIf : ℕ → Option Plan → Type 0
   PiecesIf me None = Unit {0}

@@ -1,6 +1,6 @@
 -- Which states of the run with contracts and of the plain run of the written program go together, and what a state has laid by.
-use Rattle.std.specs.Prelude.{◌≡◌, ℕ, suc, ◌+◌, ◌*◌, ◌<◌, ◌≤◌, Bool, true, false, List, [], ◌∷◌, length, Option, Some, None, IsTrue, is_some, map, filter}
-use Rattle.cil_model.specs.declared.ty.Ty.{Ty}
+use Rattle.std.specs.Prelude.{◌≡◌, ℕ, suc, ◌+◌, ◌*◌, ◌<◌, ◌≤◌, Bool, true, false, List, [], ◌∷◌, length, Option, Some, None, option_and_then, IsTrue, is_some, map, filter}
+use Rattle.cil_model.specs.declared.ty.Ty.{Ty, out-Ty}
 use Rattle.cil_model.specs.declared.value.Value.{Value, Obj}
 use Rattle.cil_model.specs.declared.program.Program.{Program}
 use Rattle.cil_model.specs.declared.program.MethodDesc.{MethodDesc}
@@ -9,7 +9,7 @@ use Rattle.cil_model.specs.declared.contract.Group.{Group}
 use Rattle.cil_model.specs.declared.contract.Group.TheVariants as group
 use Rattle.cil_model.specs.NoContracts.{no_contracts}
 use Rattle.cil_semantics.specs.declared.state.Cell.{Cell}
-use Rattle.cil_semantics.specs.Tokens.{Here, local_tys}
+use Rattle.cil_semantics.specs.Tokens.{Here, ref_type, local_tys}
 use Rattle.cil_semantics.specs.declared.state.World.{World}
 use Rattle.cil_semantics.specs.declared.state.Statics.{Statics}
 use Rattle.cil_semantics.specs.declared.state.ProgramPoint.{ProgramPoint}
@@ -21,10 +21,11 @@ use Rattle.cil_semantics.specs.declared.state.Frame.{Frame}
 use Rattle.cil_semantics.specs.State.{State, Next, Running, unrecorded}
 use Rattle.cil_semantics.specs.declared.state.Continuation.{Continuation}
 use Rattle.cil_semantics.specs.declared.state.Continuation.TheVariants.{Push, PushObject, PushStruct, ThrowObject, BeginCallee, UseField, TryNext}
-use Rattle.cil_semantics.specs.Contracted.{Plan, effective_of}
-use Rattle.cil_semantics.specs.Unwind.{body_of, plan_at, here_of, moved_to, next_place, unwind}
-use Rattle.cil_semantics.specs.Lookups.{method_of}
-use Rattle.cil_semantics.specs.Dispatch.{Seen}
+use Rattle.cil_semantics.specs.Contracted.{Piece, Plan, effective_of}
+use Rattle.cil_semantics.specs.Unwind.{body_of, plan_at, piece_at, here_of, moved_to, next_place, unwind}
+use Rattle.cil_semantics.specs.Lookups.{method_of, in_set}
+use Rattle.cil_semantics.specs.Places.{storage, is_reference}
+use Rattle.cil_semantics.specs.Dispatch.{Seen, methods_of}
 use Rattle.cil_semantics.specs.Calls.{body_seen}
 use Rattle.cil_semantics.specs.Frames.{clause_tys, captured_tys, first_place}
 use Rattle.cil_semantics.specs.Returns.{returned}
@@ -41,7 +42,7 @@ use Rattle.cil_semantics.specs.Machine.{step, step_frames, run_plain}
 use Rattle.splice_facts.specs.Acting.{WellFormedAct}
 use Rattle.splice_facts.specs.Bodies.{with_methods, SameMethods}
 use Rattle.splice_facts.specs.Grown.{beside}
-use Rattle.machine_laws.specs.Answers.{is_below}
+use Rattle.machine_laws.specs.Answers.{Each, is_below}
 use Rattle.splice_facts.specs.WellFormed.{Bounds, WellFormedLocal, WellFormedWorld, WellFormedContinuation}
 use Rattle.splice_facts.specs.Comes.{Reaches}
 use Rattle.splice_facts.specs.Input.{InputFacts, StackHeights, result_count, access_count, is_group}
@@ -49,6 +50,12 @@ use Rattle.splice_facts.specs.Layout.{Depths, Marks, Keeps, IsHere, CanArrive, O
 use Rattle.splice_facts.specs.Spliced.{Current, Throws_next, Checked, Beside, twin, FitsGroup, Spliced, cost, IsPlainAt}
 
 -- ---- the whole written program
+
+-- A class of the input, with constructors of the input: so is the E of a Requires<E> of the set, which is an exception (ECMA-335, II.22.37).
+pub record IsOwnClass (p : Program) (types methods : ℕ) (t : Ty) : Type 0 where
+  pub below : IsTrue (is_below types t)
+  pub reference : is_reference (storage p t) ≡ true
+  pub members : Each (λ c. c < methods) (methods_of p t)
 
 -- p is the input with the tables of the output: with the types, fields, methods and tokens that were appended, and with its own bodies.
 pub record Rewritten (p : Program) (k : Contracts) (ms : List MethodDesc) (g : AddedNumbers) : Type 0 where
@@ -66,6 +73,9 @@ pub record Rewritten (p : Program) (k : Contracts) (ms : List MethodDesc) (g : A
   pub guard : k.settings.guard ≤ 100
   -- a type of the input has methods of the input
   pub owned : (t : Ty) (w : World) (m : ℕ) → IsTrue (is_below types t) → Rattle.cil_semantics.specs.Frames.initializer p w t ≡ Rattle.cil_semantics.specs.Frames.ToRun m → m < methods
+  -- the exception that a failed Requires<E> of the set makes is of the input
+  pub exceptions : (m : ℕ) (plan : Plan) (gr : Group) (j : ℕ) (x : Piece) (here : Here) (t : Ty) (d : ℕ × List Ty) → m < methods → here.method ≡ m → plan_at k p m ≡ Some plan → piece_at (Some plan) gr j ≡ Some x → x.clause.kind ≡ kind.RequiresOf
+      → option_and_then (ref_type p here) x.clause.exception ≡ Some t → in_set (out-Ty t) ≡ Some d → IsOwnClass p types methods t
   -- a method of the input belongs to a type of the input
   pub members : (m : ℕ) → m < methods → (method_of p m).owner < types
   -- what was appended overrides and implements nothing: the body that a method of the input has for a type is one of the input

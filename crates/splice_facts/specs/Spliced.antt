@@ -2,10 +2,12 @@
 use Rattle.std.specs.Prelude.{◌≡◌, ◌≢◌, ℕ, zero, suc, ◌+◌, ◌-◌, ◌*◌, ◌&&◌, ◌||◌, nat_le, nat_lt, ◌<◌, ◌≤◌, Bool, true, false, ◌==◌, not, if◌then◌else◌, List, [], ◌∷◌, ◌++◌, length, map, filter, take, slice_get, Option, Some, None, option_map, option_and_then, IsTrue, IsFalse, pos, is_some}
 use Rattle.cil_base.specs.declared.token.Token.{Token}
 use Rattle.cil_model.specs.declared.ty.Ty.{Known, Prim}
-use Rattle.cil_model.specs.declared.value.Value.{Value, Obj}
+use Rattle.cil_model.specs.declared.value.Value.{Value, out-Value, Obj}
 use Rattle.cil_model.specs.declared.body.Instr.{Instr}
 use Rattle.cil_model.specs.declared.body.Region.{Region}
 use Rattle.cil_model.specs.declared.program.Program.{Program}
+use Rattle.cil_model.specs.declared.program.Meaning.{Meaning}
+use Rattle.cil_model.specs.declared.program.Meaning.TheVariants.{OfMethod}
 use Rattle.cil_model.specs.declared.contract.Contracts.{Contracts}
 use Rattle.cil_model.specs.declared.contract.Old.{Old}
 use Rattle.cil_model.specs.declared.contract.ClauseKind.{ClauseKind}
@@ -16,7 +18,7 @@ use Rattle.cil_model.specs.NoContracts.{no_contracts}
 use Rattle.cil_semantics.specs.Words.{maybe}
 use Rattle.cil_semantics.specs.Core.{Name}
 use Rattle.cil_semantics.specs.declared.state.Cell.{Cell}
-use Rattle.cil_semantics.specs.Places.{set_cell}
+use Rattle.cil_semantics.specs.Places.{storage, set_cell, seen_as}
 use Rattle.cil_semantics.specs.State as state
 use Rattle.cil_semantics.specs.declared.state.Local.{Local as LocalState}
 use Rattle.cil_semantics.specs.declared.state.World.{World}
@@ -29,15 +31,15 @@ use Rattle.cil_semantics.specs.State.{State, Next, Running, with_stack, pushed, 
 use Rattle.cil_semantics.specs.declared.state.Continuation.{Continuation}
 use Rattle.il_opcodes.specs.declared.class.Class.TheVariants as class
 use Rattle.il_opcodes.specs.Opcodes.{class_of}
-use Rattle.cil_semantics.specs.Tokens.{Here, ref_type, local_tys}
+use Rattle.cil_semantics.specs.Tokens.{Here, ref_type, local_tys, meaning_here}
 use Rattle.cil_semantics.specs.Contracted.{Piece, Plan, rank, runs_at, pieces}
 use Rattle.cil_semantics.specs.Unwind.{body_of, plan_at, piece_at, here_of, place_in, moved_to, next_place, in_try, in_handler, next_piece, Found, NoHandler, CatchHandler, CleanupHandler, search_from, searched, left_from, set_statics, find_statics, ends_frame, throws_in, unwind, drops, Below}
-use Rattle.cil_semantics.specs.Frames.{stuck, if_there, clause_tys, captured_tys, first_place}
+use Rattle.cil_semantics.specs.Frames.{stuck, if_there, read, clause_tys, captured_tys, first_place}
 use Rattle.cil_semantics.specs.Returns.{return_with, returned, push_below}
-use Rattle.cil_semantics.specs.Calls.{call_member, is_core_exception}
+use Rattle.cil_semantics.specs.Calls.{call_member, is_core_exception, pointed}
 use Rattle.cil_semantics.specs.ContractCalls.{contract_call, has_message, is_check, count_checks}
 use Rattle.cil_semantics.specs.declared.contract_call.ContractCall.{ContractCall}
-use Rattle.cil_semantics.specs.declared.contract_call.ContractCall.TheVariants.{EndsClause, EndsBlock, Abbreviates, GivesResult, TakesOld, ChecksHere, NoContractCall}
+use Rattle.cil_semantics.specs.declared.contract_call.ContractCall.TheVariants.{EndsClause, EndsBlock, Abbreviates, GivesResult, ReadsArgument, TakesOld, ChecksHere, NoContractCall}
 use Rattle.cil_semantics.specs.Checks.{AddedNumbers, Failure, Condition, condition_in, dropped, recalled, inline_label, Sequel, failing, inline_number}
 use Rattle.machine_laws.specs.Same.{most_clauses}
 use Rattle.splice_facts.specs.Grown.{grow, beside, IsCopy}
@@ -165,6 +167,13 @@ module _ (p : Program) (k : Contracts) (p' : Program) (g : AddedNumbers) (n : �
   kept_in (v ∷ rest) c f ex b fs' w ss q =
       if_there (option_and_then (set_cell p v) (slice_get f.local.captured c)) (beside ss w) (λ x. stands f (record f.local { captured = Rattle.std.specs.Prelude.slice_set f.local.captured c x; stack = rest }) ex q b fs' w ss)
 
+  -- what a place of T holds through its argument is pushed, as by ldobj, and the run goes on behind the call
+  abbrev pub loaded_at : Marks → Option Meaning → List Value → Frame → List Cell → Continuation → List Frame → World → List Statics → Next
+  loaded_at m (Some (OfMethod owner c (t ∷ ts))) (v ∷ rest) f ex b fs' w ss =
+      if_there (pointed (out-Value v)) (beside ss w)
+      (λ q. if_there (option_and_then (seen_as (storage p' t)) (read p' (twin f (with_stack f.local rest) ex (m.places f.at) [] b ∷ fs') (beside ss w) q)) (beside ss w) (λ y. stands f (pushed y (with_stack f.local rest)) ex (m.places (next_place f.at)) b fs' w ss))
+  loaded_at m o stack f ex b fs' w ss = stuck (beside ss w)
+
   -- an Assert or Assume stands there, with its label and the method that the label is of
   abbrev pub IsInline : Plan → ℕ → Frame → List Frame → ProgramPoint → Instr → ClauseKind → ℕ → Name → Type 0
   IsInline plan me f fs (InGroup gr j q) i kd home label =
@@ -255,9 +264,9 @@ module _ (p : Program) (k : Contracts) (p' : Program) (g : AddedNumbers) (n : �
     pub lifts_stuck : (f : Frame) (fs fs' : List Frame) (w : World) (ex : List Cell) (ss : List Statics) (b : Continuation) (hs : List Handling) (q : ℕ) (i : Instr) → f.method ≡ me → has_exit plan ≡ true → f.at ≡ Rest q → IsHere (Some plan) f.at → fetch p k g (Some plan) me f.at ≡ Some i → class_of i.op ≡ class.Return → Paired m f fs fs' w ex ss → Current me f.at hs
         → returned p f f.local.stack ≡ None → Comes p' (cost k p) (from_here m f ex b fs' w ss hs) (stuck (beside ss w))
     -- the call that ends a clause
-    pub checks : (gr : Group) (j q : ℕ) (x : Piece) (i : Instr) (kd : ClauseKind) (c : Condition) (f : Frame) (fs fs' : List Frame) (w : World) (ex : List Cell) (ss : List Statics) (b : Continuation) → f.method ≡ me → f.at ≡ InGroup gr j q → piece_at (Some plan) gr j ≡ Some x → slice_get x.clause.instrs q ≡ Some i → contract_call p i ≡ EndsClause kd → Paired m f fs fs' w ex ss
+    pub checks : (gr : Group) (j q : ℕ) (x : Piece) (i : Instr) (kd : ClauseKind) (c : Condition) (f : Frame) (fs fs' : List Frame) (w : World) (ex : List Cell) (ss : List Statics) (b : Continuation) → f.method ≡ me → f.at ≡ InGroup gr j q → IsHere (Some plan) f.at → piece_at (Some plan) gr j ≡ Some x → slice_get x.clause.instrs q ≡ Some i → contract_call p i ≡ EndsClause kd → Paired m f fs fs' w ex ss
         → condition_in (has_message p i) f.local.stack ≡ Some c → Checked m f fs fs' w ex ss b [] (clause_failure f fs x c.user) c.holds c.rest (m.behind gr j)
-    pub checks_stuck : (gr : Group) (j q : ℕ) (x : Piece) (i : Instr) (kd : ClauseKind) (f : Frame) (fs fs' : List Frame) (w : World) (ex : List Cell) (ss : List Statics) (b : Continuation) → f.method ≡ me → f.at ≡ InGroup gr j q → piece_at (Some plan) gr j ≡ Some x → slice_get x.clause.instrs q ≡ Some i → contract_call p i ≡ EndsClause kd → Paired m f fs fs' w ex ss
+    pub checks_stuck : (gr : Group) (j q : ℕ) (x : Piece) (i : Instr) (kd : ClauseKind) (f : Frame) (fs fs' : List Frame) (w : World) (ex : List Cell) (ss : List Statics) (b : Continuation) → f.method ≡ me → f.at ≡ InGroup gr j q → IsHere (Some plan) f.at → piece_at (Some plan) gr j ≡ Some x → slice_get x.clause.instrs q ≡ Some i → contract_call p i ≡ EndsClause kd → Paired m f fs fs' w ex ss
         → condition_in (has_message p i) f.local.stack ≡ None → Comes p' (cost k p) (from_here m f ex b fs' w ss []) (stuck (beside ss w))
     -- Assert and Assume, in the lead-in, in a clause and in the rest
     pub asserts : (f : Frame) (fs fs' : List Frame) (w : World) (ex : List Cell) (ss : List Statics) (b : Continuation) (hs : List Handling) (i : Instr) (kd : ClauseKind) (c : Condition) (label : Name) (home : ℕ) → f.method ≡ me → IsHere (Some plan) f.at → IsInline plan me f fs f.at i kd home label → rank plan.settings.level ≡ 4 → Paired m f fs fs' w ex ss → Current me f.at hs
@@ -268,12 +277,15 @@ module _ (p : Program) (k : Contracts) (p' : Program) (g : AddedNumbers) (n : �
         → Comes p' (cost k p) (from_here m f ex b fs' w ss hs)
         (if_there (dropped (has_message p i) f.local.stack) (beside ss w) (λ rest. Rattle.cil_semantics.specs.Unwind.goes_at p' (twin f (with_stack f.local rest) ex (m.places (next_place f.at)) hs b) (Rest (m.places (next_place f.at))) (grow ex (with_stack f.local rest)) hs fs' (beside ss w)))
     -- old values: taken in the entry group, and pushed in clauses
-    pub takes : (gr : Group) (j q : ℕ) (x : Piece) (i : Instr) (c : ℕ) (f : Frame) (fs fs' : List Frame) (w : World) (ex : List Cell) (ss : List Statics) (b : Continuation) → f.method ≡ me → f.at ≡ InGroup gr j q → piece_at (Some plan) gr j ≡ Some x → x.captures ≡ Some c → slice_get x.clause.instrs q ≡ Some i → contract_call p i ≡ TakesOld → Paired m f fs fs' w ex ss
+    pub takes : (gr : Group) (j q : ℕ) (x : Piece) (i : Instr) (c : ℕ) (f : Frame) (fs fs' : List Frame) (w : World) (ex : List Cell) (ss : List Statics) (b : Continuation) → f.method ≡ me → f.at ≡ InGroup gr j q → IsHere (Some plan) f.at → piece_at (Some plan) gr j ≡ Some x → x.captures ≡ Some c → slice_get x.clause.instrs q ≡ Some i → contract_call p i ≡ TakesOld → Paired m f fs fs' w ex ss
         → Comes p' (cost k p) (from_here m f ex b fs' w ss []) (kept_in f.local.stack c f ex b fs' w ss (m.behind gr j))
-    pub recalls : (gr : Group) (j q : ℕ) (x : Piece) (o : ℕ × Old) (c : Cell) (f : Frame) (fs fs' : List Frame) (w : World) (ex : List Cell) (ss : List Statics) (b : Continuation) → f.method ≡ me → f.at ≡ InGroup gr j q → piece_at (Some plan) gr j ≡ Some x → recalled x q ≡ Some o → slice_get f.local.captured (x.first_captured + o.0) ≡ Some c → Paired m f fs fs' w ex ss
+    pub recalls : (gr : Group) (j q : ℕ) (x : Piece) (o : ℕ × Old) (c : Cell) (f : Frame) (fs fs' : List Frame) (w : World) (ex : List Cell) (ss : List Statics) (b : Continuation) → f.method ≡ me → f.at ≡ InGroup gr j q → IsHere (Some plan) f.at → piece_at (Some plan) gr j ≡ Some x → recalled x q ≡ Some o → slice_get f.local.captured (x.first_captured + o.0) ≡ Some c → Paired m f fs fs' w ex ss
         → CanArrive (Some plan) (moved_to (o.1.to + 1) f.at) × Comes p' (cost k p) (from_here m f ex b fs' w ss []) (stands f (pushed c.value f.local) ex (m.places (moved_to (o.1.to + 1) f.at)) b fs' w ss)
-    pub results : (gr : Group) (j q : ℕ) (x : Piece) (i : Instr) (v : Value) (f : Frame) (fs fs' : List Frame) (w : World) (ex : List Cell) (ss : List Statics) (b : Continuation) → f.method ≡ me → f.at ≡ InGroup gr j q → piece_at (Some plan) gr j ≡ Some x → slice_get x.clause.instrs q ≡ Some i → contract_call p i ≡ GivesResult → f.local.result ≡ Some v → Paired m f fs fs' w ex ss
+    pub results : (gr : Group) (j q : ℕ) (x : Piece) (i : Instr) (v : Value) (f : Frame) (fs fs' : List Frame) (w : World) (ex : List Cell) (ss : List Statics) (b : Continuation) → f.method ≡ me → f.at ≡ InGroup gr j q → IsHere (Some plan) f.at → piece_at (Some plan) gr j ≡ Some x → slice_get x.clause.instrs q ≡ Some i → contract_call p i ≡ GivesResult → f.local.result ≡ Some v → Paired m f fs fs' w ex ss
         → Comes p' (cost k p) (from_here m f ex b fs' w ss []) (stands f (pushed v f.local) ex (m.places (next_place f.at)) b fs' w ss)
+    -- ValueAtReturn loads through its argument
+    pub loads : (gr : Group) (j q : ℕ) (x : Piece) (i : Instr) (f : Frame) (fs fs' : List Frame) (w : World) (ex : List Cell) (ss : List Statics) (b : Continuation) → f.method ≡ me → f.at ≡ InGroup gr j q → IsHere (Some plan) f.at → piece_at (Some plan) gr j ≡ Some x → recalled x q ≡ None → slice_get x.clause.instrs q ≡ Some i → contract_call p i ≡ ReadsArgument → Paired m f fs fs' w ex ss
+        → Comes p' (cost k p) (from_here m f ex b fs' w ss []) (loaded_at m (meaning_here p (here_of f fs) i) f.local.stack f ex b fs' w ss)
 
   abbrev pub GroupsIf : ℕ → Option Plan → Marks → Type 0
   GroupsIf me None m = Unit {0}

@@ -10,8 +10,7 @@ use Rattle.cil_model.specs.declared.value.Value.TheOpen.{Value-F}
 use Rattle.cil_model.specs.declared.body.Instr.{Instr}
 use Rattle.cil_model.specs.declared.contract.Contracts.{Contracts}
 use Rattle.cil_model.specs.declared.contract.ClauseKind.{ClauseKind}
-use Rattle.cil_model.specs.declared.contract.ClauseKind.TheVariants as kind
-use Rattle.cil_model.specs.declared.contract.Group.TheVariants as group
+use Rattle.cil_model.specs.declared.contract.Group.{Group}
 use Rattle.cil_model.specs.declared.program.Program.{Program}
 use Rattle.cil_model.specs.declared.program.Meaning.TheVariants.{OfText}
 use Rattle.cil_model.specs.Texts.{text_units}
@@ -36,7 +35,7 @@ use Rattle.cil_semantics.specs.Unwind.{body_of, here_of, piece_at, unwind}
 use Rattle.cil_semantics.specs.Frames.{stuck}
 use Rattle.cil_semantics.specs.ContractCalls.{contract_call, has_message}
 use Rattle.cil_semantics.specs.declared.contract_call.ContractCall.TheVariants.{EndsClause}
-use Rattle.cil_semantics.specs.Checks.{AddedNumbers, Failure, Condition, condition_in, condition_from, bool_in, label_text, number_value}
+use Rattle.cil_semantics.specs.Checks.{AddedNumbers, kind_number, Failure, Condition, condition_in, condition_from, bool_in, label_text, number_value}
 use Rattle.machine_laws.specs.Same.{most_clauses}
 use Rattle.splice_facts.specs.Comes.{Comes}
 use Rattle.splice_facts.specs.Grown.{grow, beside}
@@ -46,7 +45,7 @@ use Rattle.splice_facts.specs.Spliced.{checking}
 use Rattle.splice_facts.specs.Spliced.{Paired, twin, Checked, clause_failure, from_here, failure_cost}
 use Rattle.splice_laws.specs.Straight.{ldc, ldloc, stloc, ldnull, ldstr, brtrue, call, frame_at, at_place, StandAt, Does}
 use Rattle.splice_laws.specs.HelperRuns.{HelpersRun}
-use Rattle.splice_laws.specs.EntryCode.{EntryCode, reports, check_code, bool_ty}
+use Rattle.splice_laws.specs.EntryCode.{GroupCode, reports, check_code, bool_ty}
 use Rattle.splice_laws.specs.Fails.{NotMade, FitsFail, FailRuns, fail_cost}
 use Rattle.splice_facts.proofs.ComesLaws.{comes_at_once, comes_on, comes_within}
 use Rattle.splice_facts.proofs.StoreLaws.{IsPlain, stored_plain}
@@ -96,7 +95,7 @@ module _ (p' : Program) where
   unfolding token_here
   text_here here a t units e = ap (option_and_then (λ x. if_little (meaning_under here.type_args here.method_args x))) e
 
-module _ (p : Program) (k : Contracts) (p' : Program) (g : AddedNumbers) (n : ℕ) (depths : Depths n g) (r : HelpersRun p' g k.settings.throwing depths.owner k.settings.guard) (me : ℕ) (plan : Plan) (m : Marks) (e : EntryCode p p' g k.settings.throwing depths.owner k.settings.guard r me plan m) where
+module _ (p : Program) (k : Contracts) (p' : Program) (g : AddedNumbers) (n : ℕ) (depths : Depths n g) (r : HelpersRun p' g k.settings.throwing depths.owner k.settings.guard) (me : ℕ) (plan : Plan) (m : Marks) (gr : Group) (e : GroupCode p p' g k.settings.throwing depths.owner k.settings.guard r me plan m gr) where
   abbrev pub base : Frame → Continuation → Frame
   base f b = twin p k p' g n depths f f.local [] 0 [] b
 
@@ -128,15 +127,12 @@ module _ (p : Program) (k : Contracts) (p' : Program) (g : AddedNumbers) (n : �
           stops = λ v. stuck v;
         }
 
-    never_made : kind.Requires ≡ kind.RequiresOf → ⊥
-    never_made q = cc q
-
     -- what stands behind the message: condition, test, report
     reported : (f : Frame) (fs' : List Frame) (w : World) (b : Continuation) (ex : List Cell) (S : ℕ) (user : Instr) (uv : Value) (label : Token) (on : ℕ) (v x : Value) (rest : List Value) (X : Failure) (makes : World → Ty → ℕ → List Value → Next)
         → f.method ≡ me → length f.local.locals ≡ m.old_locals → length f.local.captured ≡ m.olds → CellOf ex e.condition_at bool_ty
-        → StandAt (body_of p' me).instrs S (reports r.assembly e.tools 0 user label on) → S + 7 ≡ on → stored (Truncated B8 false) v ≡ Some x
+        → StandAt (body_of p' me).instrs S (reports r.assembly e.tools (kind_number X.kind) user label on) → S + 7 ≡ on → stored (Truncated B8 false) v ≡ Some x
         → ((here : Here) (s : List Value) → Does p' here user (with_stack (grow (slice_set ex e.condition_at (typed_cell p' bool_ty x)) f.local) s) (with_stack (grow (slice_set ex e.condition_at (typed_cell p' bool_ty x)) f.local) (uv ∷ s)))
-        → meaning_of p' r.assembly label ≡ Some (OfText (text_units X.label)) → X.kind ≡ kind.Requires → X.user ≡ uv → stored Reference uv ≡ Some uv → FitsFail g depths.owner w
+        → meaning_of p' r.assembly label ≡ Some (OfText (text_units X.label)) → NotMade X.kind → X.user ≡ uv → stored Reference uv ≡ Some uv → FitsFail g depths.owner w
         → Comes p' (4 + (2 + fail_cost)) (at_place (base f b) (with_stack (grow ex f.local) (v ∷ rest)) S [] fs' w)
         (checking p' g k.settings.throwing X (then_of f b (with_stack f.local rest) (slice_set ex e.condition_at (typed_cell p' bool_ty x)) (S + 6) on fs' makes) (bool_in (out-Value x)) fs' w)
     reported f fs' w b ex S user uv label on v x rest X makes a h1 h2 o stand len s does lab kd us ref fit =
@@ -170,20 +166,17 @@ module _ (p : Program) (k : Contracts) (p' : Program) (g : AddedNumbers) (n : �
             next_of : (j : ℕ) → j + 6 + 1 ≡ j + 7
             next_of j = omega arith
 
-        zero_kind : I4 (pos 0) ≡ number_value X
-        zero_kind = ap (λ z. I4 (pos (Rattle.cil_semantics.specs.Checks.kind_number z))) (sym kd)
-
         call_there : slice_get (body_of p' me).instrs (S + 6) ≡ Some (call r.assembly e.tools.fail)
         call_there = ap (slice_get (body_of p' me).instrs) (sym six) ∙ ((((((stand.1).1).1).1).1).1).0
 
         fails : Comes p' fail_cost (at_place F (with_stack L (label_text X ∷ X.user ∷ number_value X ∷ rest)) (S + 6) [] fs' w) (failing p' g k.settings.throwing X T fs' w)
         fails =
             subst (λ q. Comes p' fail_cost (at_place F (with_stack L (label_text X ∷ X.user ∷ number_value X ∷ rest)) (S + 6) [] fs' w) (failing p' g k.settings.throwing X (then_of f b (with_stack f.local rest) ex2 (S + 6) q fs' makes) fs' w)) seven
-            (runs F L rest (S + 6) fs' w r.assembly e.tools.fail X makes (at_me F (S + 6) _ a call_there) e.fail_token (subst NotMade (sym kd) tt) (subst (λ y. stored Reference y ≡ Some y) (sym us) ref) fit)
+            (runs F L rest (S + 6) fs' w r.assembly e.tools.fail X makes (at_me F (S + 6) _ a call_there) e.fail_token kd (subst (λ y. stored Reference y ≡ Some y) (sym us) ref) fit)
 
         -- the stack as `fail` takes it
-        as_told : with_stack L (label_text X ∷ uv ∷ I4 (pos 0) ∷ rest) ≡ with_stack L (label_text X ∷ X.user ∷ number_value X ∷ rest)
-        as_told = ap (λ y. with_stack L (label_text X ∷ y ∷ I4 (pos 0) ∷ rest)) (sym us) ∙ ap (λ y. with_stack L (label_text X ∷ X.user ∷ y ∷ rest)) zero_kind
+        as_told : with_stack L (label_text X ∷ uv ∷ number_value X ∷ rest) ≡ with_stack L (label_text X ∷ X.user ∷ number_value X ∷ rest)
+        as_told = ap (λ y. with_stack L (label_text X ∷ y ∷ number_value X ∷ rest)) (sym us)
 
         by_test : (t : Bool) → truth x ≡ Some t → Comes p' (2 + (2 + fail_cost)) (at_place F (with_stack L (x ∷ rest)) (S + 1 + 1) [] fs' w) (checking p' g k.settings.throwing X T t fs' w)
         by_test true q =
@@ -195,23 +188,23 @@ module _ (p : Program) (k : Contracts) (p' : Program) (g : AddedNumbers) (n : �
             one_step p' F (with_stack L (x ∷ rest)) (S + 1 + 1) [] fs' w (1 + (2 + fail_cost)) _ _
             (goes_one p' F (with_stack L (x ∷ rest)) (with_stack L rest) (S + 1 + 1) [] fs' w (brtrue on) (at_me F (S + 1 + 1) _ a ((stand.1).1).0) (tests_brtrue p' here on x rest L false q) refl)
             (one_step p' F (with_stack L rest) (S + 1 + 1 + 1) [] fs' w (2 + fail_cost) _ _
-            (goes_one p' F (with_stack L rest) (with_stack L (I4 (pos 0) ∷ rest)) (S + 1 + 1 + 1) [] fs' w (ldc (pos 0)) (at_me F (S + 1 + 1 + 1) _ a (((stand.1).1).1).0) (does_ldc p' here (pos 0) (with_stack L rest)) refl)
-            (one_step p' F (with_stack L (I4 (pos 0) ∷ rest)) (S + 1 + 1 + 1 + 1) [] fs' w (1 + fail_cost) _ _
-            (goes_one p' F (with_stack L (I4 (pos 0) ∷ rest)) (with_stack L (uv ∷ I4 (pos 0) ∷ rest)) (S + 1 + 1 + 1 + 1) [] fs' w user (at_me F (S + 1 + 1 + 1 + 1) _ a ((((stand.1).1).1).1).0) (does here (I4 (pos 0) ∷ rest)) refl)
-            (one_step p' F (with_stack L (uv ∷ I4 (pos 0) ∷ rest)) (S + 1 + 1 + 1 + 1 + 1) [] fs' w fail_cost _ _
-            (goes_one p' F (with_stack L (uv ∷ I4 (pos 0) ∷ rest)) (with_stack L (label_text X ∷ uv ∷ I4 (pos 0) ∷ rest)) (S + 1 + 1 + 1 + 1 + 1) [] fs' w (ldstr r.assembly label) (at_me F (S + 1 + 1 + 1 + 1 + 1) _ a (((((stand.1).1).1).1).1).0) (does_ldstr p' here r.assembly label (text_units X.label) (with_stack L (uv ∷ I4 (pos 0) ∷ rest)) (text_here p' here r.assembly label (text_units X.label) lab)) refl)
-            (subst (λ z. Comes p' fail_cost z (failing p' g k.settings.throwing X T fs' w)) (ap (λ z. at_place F z (S + 6) [] fs' w) (sym as_told) ∙ ap (λ z. at_place F (with_stack L (label_text X ∷ uv ∷ I4 (pos 0) ∷ rest)) z [] fs' w) (sym six)) fails))))
+            (goes_one p' F (with_stack L rest) (with_stack L (number_value X ∷ rest)) (S + 1 + 1 + 1) [] fs' w (ldc (pos (kind_number X.kind))) (at_me F (S + 1 + 1 + 1) _ a (((stand.1).1).1).0) (does_ldc p' here (pos (kind_number X.kind)) (with_stack L rest)) refl)
+            (one_step p' F (with_stack L (number_value X ∷ rest)) (S + 1 + 1 + 1 + 1) [] fs' w (1 + fail_cost) _ _
+            (goes_one p' F (with_stack L (number_value X ∷ rest)) (with_stack L (uv ∷ number_value X ∷ rest)) (S + 1 + 1 + 1 + 1) [] fs' w user (at_me F (S + 1 + 1 + 1 + 1) _ a ((((stand.1).1).1).1).0) (does here (number_value X ∷ rest)) refl)
+            (one_step p' F (with_stack L (uv ∷ number_value X ∷ rest)) (S + 1 + 1 + 1 + 1 + 1) [] fs' w fail_cost _ _
+            (goes_one p' F (with_stack L (uv ∷ number_value X ∷ rest)) (with_stack L (label_text X ∷ uv ∷ number_value X ∷ rest)) (S + 1 + 1 + 1 + 1 + 1) [] fs' w (ldstr r.assembly label) (at_me F (S + 1 + 1 + 1 + 1 + 1) _ a (((((stand.1).1).1).1).1).0) (does_ldstr p' here r.assembly label (text_units X.label) (with_stack L (uv ∷ number_value X ∷ rest)) (text_here p' here r.assembly label (text_units X.label) lab)) refl)
+            (subst (λ z. Comes p' fail_cost z (failing p' g k.settings.throwing X T fs' w)) (ap (λ z. at_place F z (S + 6) [] fs' w) (sym as_told) ∙ ap (λ z. at_place F (with_stack L (label_text X ∷ uv ∷ number_value X ∷ rest)) z [] fs' w) (sym six)) fails))))
 
     -- checks
-    pub checks_entry : (j q : ℕ) (x : Piece) (i : Instr) (kd : ClauseKind) (c : Condition) (f : Frame) (fs fs' : List Frame) (w : World) (ex : List Cell) (ss : List Statics) (b : Continuation) → f.method ≡ me → f.at ≡ InGroup group.Entry j q → piece_at (Some plan) group.Entry j ≡ Some x → slice_get x.clause.instrs q ≡ Some i → contract_call p i ≡ EndsClause kd → Sc f fs fs' w ex ss
-        → condition_in (has_message p i) f.local.stack ≡ Some c → Checked p k p' g n depths m f fs fs' w ex ss b [] (clause_failure p k p' g n depths f fs x c.user) c.holds c.rest (m.behind group.Entry j)
-    checks_entry j q x i kd c f fs fs' w ex ss b a at there instr ends s given = by_message (has_message p i) (e.checks j q x i kd there instr ends) given
+    pub checks_group : (j q : ℕ) (x : Piece) (i : Instr) (kd : ClauseKind) (c : Condition) (f : Frame) (fs fs' : List Frame) (w : World) (ex : List Cell) (ss : List Statics) (b : Continuation) → f.method ≡ me → f.at ≡ InGroup gr j q → piece_at (Some plan) gr j ≡ Some x → slice_get x.clause.instrs q ≡ Some i → contract_call p i ≡ EndsClause kd → Sc f fs fs' w ex ss
+        → condition_in (has_message p i) f.local.stack ≡ Some c → Checked p k p' g n depths m f fs fs' w ex ss b [] (clause_failure p k p' g n depths f fs x c.user) c.holds c.rest (m.behind gr j)
+    checks_group j q x i kd c f fs fs' w ex ss b a at there instr ends s given = by_message (has_message p i) (e.checks j q x i kd there instr ends) given
       where
         S : ℕ
-        S = m.places (InGroup group.Entry j q)
+        S = m.places (InGroup gr j q)
 
         B : ℕ
-        B = m.behind group.Entry j
+        B = m.behind gr j
 
         WW : World
         WW = beside ss w
@@ -239,7 +232,7 @@ module _ (p : Program) (k : Contracts) (p' : Program) (g : AddedNumbers) (n : �
 
         -- the condition lies on the stack, the message in a local or nowhere
         tested : (ex1 : List Cell) (S1 : ℕ) (n0 : ℕ) (user : Instr) (uv v x0 : Value) (rest : List Value) → n0 ≤ 1 → Keeps m (here_of f fs) f.thrown f.local ex1 → stored (Truncated B8 false) v ≡ Some x0
-            → StandAt (body_of p' me).instrs S1 (reports r.assembly e.tools 0 user (e.label x) B) → S1 + 7 ≡ B → S ≤ S1
+            → StandAt (body_of p' me).instrs S1 (reports r.assembly e.tools (kind_number x.clause.kind) user (e.label x) B) → S1 + 7 ≡ B → S ≤ S1
             → ((here : Here) (st : List Value) → Does p' here user (with_stack (grow (slice_set ex1 e.condition_at (typed_cell p' bool_ty x0)) f.local) st) (with_stack (grow (slice_set ex1 e.condition_at (typed_cell p' bool_ty x0)) f.local) (uv ∷ st)))
             → stored Reference uv ≡ Some uv → Comes p' n0 from (at_place (base f b) (with_stack (grow ex1 f.local) (v ∷ rest)) S1 [] fs' WW)
             → Check (record { holds = bool_in (out-Value x0); user = uv; rest = rest })
@@ -251,13 +244,13 @@ module _ (p : Program) (k : Contracts) (p' : Program) (g : AddedNumbers) (n : �
               keeps = k2;
               seam = S1 + 6;
               belongs = subst (λ z. IsTrue (m.belongs z (S1 + 6))) (sym at) (e.seam_belongs j q x i kd there instr ends (S1 + 6) (omega (arith, after)) (omega (arith, len)));
-              made = λ k1 y. absurd (never_made (sym ((e.requires j x there).0) ∙ k1));
+              made = λ k1 y. absurd (subst NotMade k1 (e.clauses j x there).0);
               comes = comes_within p' (n0 + (4 + (2 + fail_cost))) (failure_cost k p) _ _ (omega (arith, many, le))
                   (comes_on p' n0 (4 + (2 + fail_cost)) _ _ _ come
-                  (reported f fs' WW b ex1 S1 user uv (e.label x) B v x0 rest (X uv) (makes rest ex2 (S1 + 6)) a kp.wide kp.caps (condition_cell ex1 kp) stand len sx does (e.labelled j x there) ((e.requires j x there).0) refl ref fit));
+                  (reported f fs' WW b ex1 S1 user uv (e.label x) B v x0 rest (X uv) (makes rest ex2 (S1 + 6)) a kp.wide kp.caps (condition_cell ex1 kp) stand len sx does (e.labelled j x there) ((e.clauses j x there).0) refl ref fit));
             }
 
-        plain_condition : (st : List Value) → f.local.stack ≡ st → StandAt (body_of p' me).instrs S (reports r.assembly e.tools 0 ldnull (e.label x) B) → S + 7 ≡ B → (z : Condition) → condition_from Null st ≡ Some z → Check z
+        plain_condition : (st : List Value) → f.local.stack ≡ st → StandAt (body_of p' me).instrs S (reports r.assembly e.tools (kind_number x.clause.kind) ldnull (e.label x) B) → S + 7 ≡ B → (z : Condition) → condition_from Null st ≡ Some z → Check z
         plain_condition [] es stand len z ez = absurd (cc ez)
         plain_condition (v ∷ rest) es stand len z ez = by_stored (stored (Truncated B8 false) v) refl ez
           where
@@ -269,7 +262,7 @@ module _ (p : Program) (k : Contracts) (p' : Program) (g : AddedNumbers) (n : �
                 (tested ex S 0 ldnull Null v x0 rest (omega arith) s.keeps so stand len (omega arith) (λ here st. does_ldnull p' here (with_stack (grow (slice_set ex e.condition_at (typed_cell p' bool_ty x0)) f.local) st)) null_stored
                 (comes_at_once p' 0 _ _ (sym (from_stack (v ∷ rest) es))))
 
-        told_condition : (u : Value) (st : List Value) → f.local.stack ≡ u ∷ st → StandAt (body_of p' me).instrs S (stloc e.tools.message ∷ reports r.assembly e.tools 0 (ldloc e.tools.message) (e.label x) B) → S + 8 ≡ B → (z : Condition) → condition_in true (u ∷ st) ≡ Some z → Check z
+        told_condition : (u : Value) (st : List Value) → f.local.stack ≡ u ∷ st → StandAt (body_of p' me).instrs S (stloc e.tools.message ∷ reports r.assembly e.tools (kind_number x.clause.kind) (ldloc e.tools.message) (e.label x) B) → S + 8 ≡ B → (z : Condition) → condition_in true (u ∷ st) ≡ Some z → Check z
         told_condition u st es stand len z ez = by_user (stored Reference u) refl ez
           where
             by_condition : (user : Value) → stored Reference u ≡ Some user → (st2 : List Value) → st ≡ st2 → condition_from user st2 ≡ Some z → Check z
@@ -304,10 +297,10 @@ module _ (p : Program) (k : Contracts) (p' : Program) (g : AddedNumbers) (n : �
             by_user None su q1 = absurd (cc q1)
             by_user (Some user) su q1 = by_condition user su st refl q1
 
-        by_stack : (st : List Value) → f.local.stack ≡ st → StandAt (body_of p' me).instrs S (stloc e.tools.message ∷ reports r.assembly e.tools 0 (ldloc e.tools.message) (e.label x) B) → S + 8 ≡ B → (z : Condition) → condition_in true st ≡ Some z → Check z
+        by_stack : (st : List Value) → f.local.stack ≡ st → StandAt (body_of p' me).instrs S (stloc e.tools.message ∷ reports r.assembly e.tools (kind_number x.clause.kind) (ldloc e.tools.message) (e.label x) B) → S + 8 ≡ B → (z : Condition) → condition_in true st ≡ Some z → Check z
         by_stack [] es stand len z ez = absurd (cc ez)
         by_stack (u ∷ st) es stand len z ez = told_condition u st es stand len z ez
 
-        by_message : (t : Bool) → StandAt (body_of p' me).instrs S (check_code t r.assembly e.tools 0 (e.label x) B) × (B ≡ S + length (check_code t r.assembly e.tools 0 (e.label x) B)) → condition_in t f.local.stack ≡ Some c → Check c
+        by_message : (t : Bool) → StandAt (body_of p' me).instrs S (check_code t r.assembly e.tools (kind_number x.clause.kind) (e.label x) B) × (B ≡ S + length (check_code t r.assembly e.tools (kind_number x.clause.kind) (e.label x) B)) → condition_in t f.local.stack ≡ Some c → Check c
         by_message true code q1 = by_stack f.local.stack refl code.0 (sym code.1) c q1
         by_message false code q1 = plain_condition f.local.stack refl code.0 (sym code.1) c q1

@@ -1,6 +1,6 @@
--- The entry group of Requires clauses as instructions: it opens, goes on, and breaks as the facts say.
+-- A group of clauses as instructions: it opens, goes on, and breaks as the facts say.
 use Rattle.std.proofs.Common.{◌≡◌, ℕ, zero, suc, ◌+◌, ◌-◌, ◌<◌, ◌≤◌, Bool, true, false, List, [], ◌∷◌, ◌++◌, length, Option, Some, None, refl, sym, ap, ◌∙◌, subst, arith}
-use Rattle.std.specs.Prelude.{slice_get, option_map, if◌then◌else◌, filter, ◌&&◌, not, nat_le, nat_lt, IsTrue, pos}
+use Rattle.std.specs.Prelude.{slice_get, option_map, if◌then◌else◌, filter, ◌&&◌, ◌==◌, not, nat_le, nat_lt, IsTrue, pos}
 use Rattle.cil_base.specs.declared.token.Token.{Token}
 use Rattle.cil_model.specs.declared.ty.Ty.{Known}
 use Rattle.cil_model.specs.declared.value.Value.{Value, I4, Obj}
@@ -9,7 +9,9 @@ use Rattle.cil_model.specs.declared.body.Instr.{Instr}
 use Rattle.cil_model.specs.declared.body.Region.{Region}
 use Rattle.cil_model.specs.declared.body.RegionKind.TheVariants as region
 use Rattle.cil_model.specs.declared.contract.Contracts.{Contracts}
+use Rattle.cil_model.specs.declared.contract.Group.{Group}
 use Rattle.cil_model.specs.declared.contract.Group.TheVariants as group
+use Rattle.cil_model.specs.declared.contract.Settings.{Settings}
 use Rattle.cil_model.specs.declared.program.Program.{Program}
 use Rattle.cil_model.specs.NoContracts.{no_contracts}
 use Rattle.cil_semantics.specs.Words.{maybe}
@@ -31,10 +33,11 @@ use Rattle.machine_laws.specs.Same.{most_clauses}
 use Rattle.splice_facts.specs.Comes.{Comes}
 use Rattle.splice_facts.specs.Grown.{grow, beside}
 use Rattle.splice_facts.specs.Layout.{Depths, Marks, Keeps, HasDepth}
-use Rattle.splice_facts.specs.Spliced.{Beside, Paired, twin, stands, leaves_with, EntersAt, ContinuesAt, cost}
+use Rattle.splice_facts.specs.Spliced.{Beside, Paired, twin, stands, leaves_with, ContinuesAt, cost}
 use Rattle.splice_laws.specs.Straight.{brfalse, at_place}
-use Rattle.splice_laws.specs.HelperRuns.{HelpersRun, with_depth, entered}
-use Rattle.splice_laws.specs.EntryCode.{EntryCode}
+use Rattle.splice_laws.specs.HelperRuns.{HelpersRun, EnterRuns, with_depth, entered, enter_of, most_of}
+use Rattle.splice_laws.specs.EntryCode.{GroupCode}
+use Rattle.splice_laws.specs.GroupSeams.{BeginsAt}
 use Rattle.splice_facts.proofs.ComesLaws.{comes_at_once, comes_on, comes_within}
 use Rattle.splice_laws.proofs.StraightLaws.{one_step, goes_one, jumps_one, tests_brfalse, rows}
 use Rattle.splice_laws.specs.Straight.{Stay}
@@ -48,6 +51,10 @@ truth_of_one = refl
 truth_of_zero : truth (I4 (pos 0)) ≡ Some false
 unfolding values.out-Value denote.Hole.Carrier.out
 truth_of_zero = refl
+
+-- a depth of at most 0 is 0
+at_most_none : (d : ℕ) → nat_le d 0 ≡ (d == 0)
+at_most_none d = grind arith
 
 -- where each piece takes part, the next one is that of the next number
 first_of_all : (test : Piece → Bool) (skip i : ℕ) (xs : List Piece) → ((x : Piece) → test x ≡ true) → first_from test skip i xs ≡ option_map (λ x. (i + skip, x)) (slice_get xs skip)
@@ -65,12 +72,12 @@ module _ (p : Program) (k : Contracts) (p' : Program) (g : AddedNumbers) (n : �
   all_part : (f : Frame) (fs : List Frame) (w : World) (x : Piece) → f.thrown ≡ None → takes_part p f fs w x ≡ true
   all_part f fs w x e = ap (λ t. takes_part p (record f { thrown = t }) fs w x) e
 
-  module _ (r : HelpersRun p' g k.settings.throwing depths.owner k.settings.guard) (me : ℕ) (plan : Plan) (m : Marks) (e : EntryCode p p' g k.settings.throwing depths.owner k.settings.guard r me plan m) where
+  module _ (r : HelpersRun p' g k.settings.throwing depths.owner k.settings.guard) (me : ℕ) (plan : Plan) (m : Marks) (gr : Group) (e : GroupCode p p' g k.settings.throwing depths.owner k.settings.guard r me plan m gr) where
     abbrev D : ℕ
-    D = m.door group.Entry
+    D = m.door gr
 
     abbrev R : ℕ
-    R = m.out group.Entry
+    R = m.out gr
 
     abbrev H : ℕ
     H = e.handler
@@ -82,10 +89,10 @@ module _ (p : Program) (k : Contracts) (p' : Program) (g : AddedNumbers) (n : �
     v = length e.old
 
     abbrev here_now : ℕ → Option Piece
-    here_now j = piece_at (Some plan) group.Entry j
+    here_now j = piece_at (Some plan) gr j
 
-    next_is : (j : ℕ) (f : Frame) (fs : List Frame) (w : World) → f.thrown ≡ None → next_piece p plan group.Entry j f fs w ≡ option_map (λ x. (j, x)) (here_now j)
-    next_is j f fs w t = first_of_all (takes_part p f fs w) j 0 (pieces plan group.Entry) (λ x. all_part f fs w x t) ∙ ap (λ i. option_map (λ x. (i, x)) (here_now j)) (same j)
+    next_is : (j : ℕ) (f : Frame) (fs : List Frame) (w : World) → f.thrown ≡ None → next_piece p plan gr j f fs w ≡ option_map (λ x. (j, x)) (here_now j)
+    next_is j f fs w t = first_of_all (takes_part p f fs w) j 0 (pieces plan gr) (λ x. all_part f fs w x t) ∙ ap (λ i. option_map (λ x. (i, x)) (here_now j)) (same j)
       where
         same : (i : ℕ) → 0 + i ≡ i
         same i = omega arith
@@ -179,23 +186,37 @@ module _ (p : Program) (k : Contracts) (p' : Program) (g : AddedNumbers) (n : �
     goes_out false b q s = absurd (cc q)
 
     module _ (many : 1 ≤ most_clauses k p 0 p.methods) (small : k.settings.guard ≤ 100) (settings : plan.settings ≡ k.settings) where
+      asks_runs : (gr1 : Group) → EnterRuns p' depths.owner (enter_of r gr1) (most_of gr1 k.settings.guard)
+      asks_runs group.Entry = r.enters
+      asks_runs group.Exit = r.enters
+      asks_runs group.Throw = r.enters
+      asks_runs group.Invariant = r.enters_outer
+      asks_runs group.Inline = r.enters
+
+      asked : (gr1 : Group) (d : ℕ) (t : Bool) → runs_at plan gr1 d ≡ t → nat_le d (most_of gr1 k.settings.guard) ≡ t
+      asked group.Entry d t q = ap (λ (z : Settings). nat_le d z.guard) (sym settings) ∙ q
+      asked group.Exit d t q = ap (λ (z : Settings). nat_le d z.guard) (sym settings) ∙ q
+      asked group.Throw d t q = ap (λ (z : Settings). nat_le d z.guard) (sym settings) ∙ q
+      asked group.Invariant d t q = at_most_none d ∙ q
+      asked group.Inline d t q = ap (λ (z : Settings). nat_le d z.guard) (sym settings) ∙ q
+
       -- the door: `enter` is asked
-      asks : (f : Frame) (fs fs' : List Frame) (w : World) (ex : List Cell) (ss : List Statics) (b : Continuation) (t : Bool) → f.method ≡ me → Sc f fs fs' w ex ss → nat_le w.depth k.settings.guard ≡ t
+      asks : (f : Frame) (fs fs' : List Frame) (w : World) (ex : List Cell) (ss : List Statics) (b : Continuation) (t : Bool) → f.method ≡ me → Sc f fs fs' w ex ss → nat_le w.depth (most_of gr k.settings.guard) ≡ t
           → Comes p' 10 (stands p k p' g n depths f f.local ex D b fs' w ss) (entered depths.owner t w.depth (base f b) (grow ex f.local) D [] fs' (beside ss w))
       asks f fs fs' w ex ss b t a s q =
           let F : Frame = base f b in
           let W : World = beside ss w in
           let deep : w.depth ≤ suc k.settings.guard = s.deep in
-          r.enters F (grow ex f.local) D [] fs' W r.assembly e.tools.enter w.depth t (at_me F D _ a e.opens.0) e.enter_token (s.beside).depth (omega (arith, deep, small)) refl q
+          asks_runs gr F (grow ex f.local) D [] fs' W r.assembly e.tools.enter w.depth t (at_me F D _ a e.opens.0) e.enter_token (s.beside).depth (omega (arith, deep, small)) refl q
 
       -- the group begins with the stack that is there
-      pub enters_entry : (f : Frame) (fs fs' : List Frame) (w : World) (ex : List Cell) (ss : List Statics) (b : Continuation) → f.method ≡ me → f.thrown ≡ None → Sc f fs fs' w ex ss
-          → EntersAt p k p' g n depths m plan (cost k p) (stands p k p' g n depths f f.local ex D b fs' w ss) f fs f.local b fs' w (next_piece p plan group.Entry 0 f fs w) (runs_at plan group.Entry w.depth)
-      enters_entry f fs fs' w ex ss b a none s =
-          subst (λ o. Opens o (runs_at plan group.Entry w.depth)) (sym (next_is 0 f fs w none ∙ ap (option_map (λ x. (0, x))) e.there)) (by_test (runs_at plan group.Entry w.depth) refl)
+      pub begins_group : (f : Frame) (fs fs' : List Frame) (w : World) (ex : List Cell) (ss : List Statics) (b : Continuation) → f.method ≡ me → f.thrown ≡ None → Sc f fs fs' w ex ss
+          → BeginsAt p k p' g n depths me plan m gr (stands p k p' g n depths f f.local ex D b fs' w ss) f fs f.local b fs' w (next_piece p plan gr 0 f fs w) (runs_at plan gr w.depth)
+      begins_group f fs fs' w ex ss b a none s =
+          subst (λ o. Opens o (runs_at plan gr w.depth)) (sym (next_is 0 f fs w none ∙ ap (option_map (λ x. (0, x))) e.there)) (by_test (runs_at plan gr w.depth) refl)
         where
           Opens : Option (ℕ × Piece) → Bool → Type 0
-          Opens o t = EntersAt p k p' g n depths m plan (cost k p) (stands p k p' g n depths f f.local ex D b fs' w ss) f fs f.local b fs' w o t
+          Opens o t = BeginsAt p k p' g n depths me plan m gr (stands p k p' g n depths f f.local ex D b fs' w ss) f fs f.local b fs' w o t
 
           F : Frame
           F = base f b
@@ -209,13 +230,10 @@ module _ (p : Program) (k : Contracts) (p' : Program) (g : AddedNumbers) (n : �
           V : World
           V = with_depth depths.owner (w.depth + 1) W
 
-          asked : (t : Bool) → runs_at plan group.Entry w.depth ≡ t → nat_le w.depth k.settings.guard ≡ t
-          asked t q = ap (λ (z : Rattle.cil_model.specs.declared.contract.Settings.Settings). nat_le w.depth z.guard) (sym settings) ∙ q
-
           two : D + 1 + 1 ≡ D + 2
           two = omega arith
 
-          by_test : (t : Bool) → runs_at plan group.Entry w.depth ≡ t → Opens (Some (0, e.first)) t
+          by_test : (t : Bool) → runs_at plan gr w.depth ≡ t → Opens (Some (0, e.first)) t
           by_test true q =
               record {
                 extra = ex;
@@ -227,7 +245,7 @@ module _ (p : Program) (k : Contracts) (p' : Program) (g : AddedNumbers) (n : �
                   bare = apart_set depths.owner g.exception (w.depth + 1) W depths.apart ∙ (s.beside).bare;
                 };
                 comes = comes_within p' (10 + 1) (cost k p) _ _ (omega (arith, many))
-                    (comes_on p' 10 1 _ _ _ (asks f fs fs' w ex ss b true a s (asked true q))
+                    (comes_on p' 10 1 _ _ _ (asks f fs fs' w ex ss b true a s (asked gr w.depth true q))
                     (one_step p' F (pushed (I4 (pos 1)) l0) (D + 1) [] fs' V 0 _ _
                     (goes_one p' F (pushed (I4 (pos 1)) l0) l0 (D + 1) [] fs' V (brfalse R) (at_me F (D + 1) _ a (e.opens.1).0) (tests_brfalse p' (here_of F fs') R (I4 (pos 1)) l0.stack l0 true truth_of_one) refl)
                     (comes_at_once p' 0 _ _ (ap (λ z. at_place F l0 z [] fs' V) (two ∙ sym e.first_here)))));
@@ -239,7 +257,7 @@ module _ (p : Program) (k : Contracts) (p' : Program) (g : AddedNumbers) (n : �
                 statics = ss;
                 beside = s.beside;
                 comes = comes_within p' (10 + 1) (cost k p) _ _ (omega (arith, many))
-                    (comes_on p' 10 1 _ _ _ (asks f fs fs' w ex ss b false a s (asked false q))
+                    (comes_on p' 10 1 _ _ _ (asks f fs fs' w ex ss b false a s (asked gr w.depth false q))
                     (one_step p' F (pushed (I4 (pos 0)) l0) (D + 1) [] fs' W 0 _ _
                     (jumps_one p' F (pushed (I4 (pos 0)) l0) l0 (D + 1) R [] fs' W (brfalse R) (at_me F (D + 1) _ a (e.opens.1).0) (tests_brfalse p' (here_of F fs') R (I4 (pos 0)) l0.stack l0 false truth_of_zero) refl)
                     (comes_at_once p' 0 _ _ refl)));
@@ -269,13 +287,13 @@ module _ (p : Program) (k : Contracts) (p' : Program) (g : AddedNumbers) (n : �
           }
 
       -- continues
-      pub continues_entry : (j : ℕ) (x : Piece) (f : Frame) (fs fs' : List Frame) (w : World) (ex : List Cell) (ss : List Statics) (b : Continuation) → here_now j ≡ Some x → f.method ≡ me → f.thrown ≡ None → 0 < w.depth → Sc f fs fs' w ex ss
-          → ContinuesAt p k p' g n depths m plan group.Entry (cost k p) (stands p k p' g n depths f f.local ex (m.behind group.Entry j) b fs' w ss) f fs f.local b fs' w (next_piece p plan group.Entry (j + 1) f fs w)
-      continues_entry j x f fs fs' w ex ss b there a none some s =
+      pub continues_group : (j : ℕ) (x : Piece) (f : Frame) (fs fs' : List Frame) (w : World) (ex : List Cell) (ss : List Statics) (b : Continuation) → here_now j ≡ Some x → f.method ≡ me → f.thrown ≡ None → 0 < w.depth → Sc f fs fs' w ex ss
+          → ContinuesAt p k p' g n depths m plan gr (cost k p) (stands p k p' g n depths f f.local ex (m.behind gr j) b fs' w ss) f fs f.local b fs' w (next_piece p plan gr (j + 1) f fs w)
+      continues_group j x f fs fs' w ex ss b there a none some s =
           subst Continues (sym (next_is (j + 1) f fs w none)) (by_piece (here_now (j + 1)) refl)
         where
           Continues : Option (ℕ × Piece) → Type 0
-          Continues o = ContinuesAt p k p' g n depths m plan group.Entry (cost k p) (stands p k p' g n depths f f.local ex (m.behind group.Entry j) b fs' w ss) f fs f.local b fs' w o
+          Continues o = ContinuesAt p k p' g n depths m plan gr (cost k p) (stands p k p' g n depths f f.local ex (m.behind gr j) b fs' w ss) f fs f.local b fs' w o
 
           F : Frame
           F = base f b
@@ -287,7 +305,7 @@ module _ (p : Program) (k : Contracts) (p' : Program) (g : AddedNumbers) (n : �
           W = beside ss w
 
           B : ℕ
-          B = m.behind group.Entry j
+          B = m.behind gr j
 
           lo : D + 2 ≤ B
           lo = (e.behind_in j x there).0
@@ -297,7 +315,7 @@ module _ (p : Program) (k : Contracts) (p' : Program) (g : AddedNumbers) (n : �
 
           by_piece : (o : Option Piece) → here_now (j + 1) ≡ o → Continues (option_map (λ y. (j + 1, y)) o)
           by_piece (Some y) q =
-              let T = m.places (InGroup group.Entry (j + 1) y.from) in
+              let T = m.places (InGroup gr (j + 1) y.from) in
               let t = e.begins_in (j + 1) y q in
               record {
                 extra = ex;
@@ -329,9 +347,9 @@ module _ (p : Program) (k : Contracts) (p' : Program) (g : AddedNumbers) (n : �
               }
 
       -- breaks
-      pub breaks_entry : (j q q' : ℕ) (f : Frame) (fs fs' : List Frame) (w : World) (ex : List Cell) (ss : List Statics) (b : Continuation) (x : ℕ) → f.at ≡ InGroup group.Entry j q → IsTrue (m.belongs f.at q') → f.method ≡ me → 0 < w.depth → Sc f fs fs' w ex ss
+      pub breaks_group : (j q q' : ℕ) (f : Frame) (fs fs' : List Frame) (w : World) (ex : List Cell) (ss : List Statics) (b : Continuation) (x : ℕ) → f.at ≡ InGroup gr j q → IsTrue (m.belongs f.at q') → f.method ≡ me → 0 < w.depth → Sc f fs fs' w ex ss
           → (ss2 : List Statics) × Beside p k p' g n depths (lowered w) ss2 × Comes p' (cost k p) (unwind p' no_contracts false (twin p k p' g n depths f f.local ex q' [] b ∷ fs') (beside ss w) x) (leaves_with p k p' g n depths f b fs' (lowered w) ss2 x)
-      breaks_entry j q q' f fs fs' w ex ss b x at bel a some s =
+      breaks_group j q q' f fs fs' w ex ss b x at bel a some s =
           let F : Frame = base f b in
           let l0 = grow ex (with_stack f.local []) in
           let W : World = beside ss w in

@@ -7,8 +7,12 @@ pub mod ExceptionLaws
 pub mod SeamLocalLaws
 pub mod CheckLaws
 pub mod EntryGroupLaws
+pub mod GroupLaws
+pub mod LoadLaws
 pub mod RequiresLaws
-pub mod LiftedRetLaws
+pub mod ToldLaws
+pub mod ExitLaws
+pub mod DropLaws
 pub mod UntouchedLaws
 pub mod DepthLaws
 pub mod HelperLaws

@@ -3,6 +3,8 @@ use Rattle.std.specs.Prelude.{◌≡◌, ℕ, ◌+◌, ◌≤◌, Bool, true, fa
 use Rattle.cil_base.specs.declared.token.Token.{Token}
 use Rattle.cil_model.specs.declared.ty.Ty.{Known}
 use Rattle.cil_model.specs.declared.value.Value.{I4}
+use Rattle.cil_model.specs.declared.contract.Group.{Group}
+use Rattle.cil_model.specs.declared.contract.Group.TheVariants as group
 use Rattle.cil_model.specs.declared.program.Program.{Program}
 use Rattle.cil_model.specs.declared.program.Meaning.TheVariants.{OfMethod}
 use Rattle.cil_semantics.specs.declared.state.Local.{Local as LocalState}
@@ -53,3 +55,12 @@ pub record HelpersRun (p : Program) (g : AddedNumbers) (throwing : Bool) (owner 
   pub enters_outer : EnterRuns p owner enter_outer 0
   pub leaves : LeaveRuns p owner leave
   pub fails : FailRuns p g throwing owner fail (FitsFail g owner)
+
+-- the group of invariants asks whether the depth is 0, each other one whether it is at most the guard
+abbrev pub enter_of : {p : Program} {g : AddedNumbers} {throwing : Bool} {owner guard : ℕ} → HelpersRun p g throwing owner guard → Group → ℕ
+enter_of r group.Invariant = r.enter_outer
+enter_of r _ = r.enter
+
+abbrev pub most_of : Group → (guard : ℕ) → ℕ
+most_of group.Invariant guard = 0
+most_of _ guard = guard

@@ -3,4 +3,8 @@ pub mod Helpers
 pub mod Fails
 pub mod HelperRuns
 pub mod EntryCode
+pub mod GroupSeams
+pub mod ExitCode
+pub mod DropCode
+pub mod LoadCode
 pub mod RequiresOnly

@@ -19,6 +19,7 @@ use Rattle.cil_semantics.specs.declared.contract_call.ContractCall.TheVariants.{
 use Rattle.cil_semantics.specs.Checks.{AddedNumbers, recalled}
 use Rattle.splice_facts.specs.Layout.{Depths, Marks}
 use Rattle.splice_facts.specs.Spliced.{IsInline}
+use Rattle.splice_laws.specs.LoadCode.{LoadCode}
 
 module _ (p : Program) (k : Contracts) (p' : Program) (g : AddedNumbers) (n : ℕ) (depths : Depths n g) (me : ℕ) (plan : Plan) (m : Marks) where
   -- what the input and the marks give besides
@@ -32,3 +33,4 @@ module _ (p : Program) (k : Contracts) (p' : Program) (g : AddedNumbers) (n : �
     pub no_inline : (f : Frame) (fs : List Frame) (at : ProgramPoint) (i : Instr) (kd : ClauseKind) (home : ℕ) (label : Name) → IsInline p k p' g n depths plan me f fs at i kd home label → ⊥
     pub no_old : (gr : Group) (j q : ℕ) (x : Piece) (o : ℕ × Old) → piece_at (Some plan) gr j ≡ Some x → recalled x q ≡ Some o → ⊥
     pub no_result : (gr : Group) (j q : ℕ) (x : Piece) (i : Instr) → piece_at (Some plan) gr j ≡ Some x → slice_get x.clause.instrs q ≡ Some i → contract_call p i ≡ GivesResult → ⊥
+    pub loads : LoadCode p p' me plan m

@@ -19,6 +19,8 @@ use Rattle.splice_laws.specs.HelperRuns.{HelpersRun, EnterRuns, LeaveRuns}
 use Rattle.splice_laws.specs.Helpers.{HasRuntime, enter_code, leave_code}
 use Rattle.splice_laws.specs.Straight.{ldarg, ldc, add, ret, StandAt}
 use Rattle.splice_laws.specs.EntryCode.{EntryCode, check_code}
+use Rattle.splice_laws.specs.Fails.{NotMade}
+use Rattle.cil_semantics.specs.Checks.{kind_number}
 use Rattle.splice_laws.proofs.ExceptionLaws.{makes_failure}
 use Rattle.splice_laws.proofs.HelperCallLaws.{enter_runs, leave_runs}
 use Rattle.splice_laws.proofs.FailLaws.{fail_runs}
@@ -194,8 +196,11 @@ between q h = (grind (arith, h), grind (arith, h))
 pub within : (q : ℕ) → 2 ≤ q → q < 13 → IsTrue (nat_le 2 q && nat_lt q 13)
 within q a b = grind (arith, a, b)
 
+abbrev IsCheckOf : (kind : ℕ) → ℕ → Instr → Type 0
+IsCheckOf n q i = StandAt (body_of output 0).instrs (q + 2) (check_code (has_message input i) 0 tools n (token 0x70 1) 12) × (12 ≡ q + 2 + length (check_code (has_message input i) 0 tools n (token 0x70 1) 12))
+
 abbrev IsCheck : ℕ → Instr → Type 0
-IsCheck q i = StandAt (body_of output 0).instrs (q + 2) (check_code (has_message input i) 0 tools 0 (token 0x70 1) 12) × (12 ≡ q + 2 + length (check_code (has_message input i) 0 tools 0 (token 0x70 1) 12))
+IsCheck q i = IsCheckOf 0 q i
 
 the_check : IsCheck 3 requires_call
 unfolding everything
@@ -232,9 +237,9 @@ code =
       condition_ty = λ here e. refl;
       message_ty = λ here e. refl;
       apart_too = (((λ e. absurd (omega (arith, e)), λ e. absurd (omega (arith, e)))), (λ e. absurd (omega (arith, e)), λ e. absurd (omega (arith, e))), λ e. absurd (omega (arith, e)));
-      requires = λ j x a. in_entry (λ gr i z. (z.clause.kind ≡ kind.Requires) × (z.captures ≡ None)) (refl, refl) group.Entry j x a;
+      clauses = λ j x a. in_entry (λ gr i z. NotMade z.clause.kind × (z.captures ≡ None)) (tt, refl) group.Entry j x a;
       label = λ x. token 0x70 1;
       labelled = λ j x a. in_entry (λ gr i z. Rattle.cil_semantics.specs.Tokens.meaning_of output 0 (token 0x70 1) ≡ Some (Rattle.cil_model.specs.declared.program.Meaning.TheVariants.OfText (Rattle.cil_model.specs.Texts.text_units z.clause.label))) refl group.Entry j x a;
-      checks = λ j q x i kd a b c. in_entry (λ gr k z. slice_get z.clause.instrs q ≡ Some i → IsCheck q i) (λ b1. ends_at IsCheck the_check q i kd b1 c) group.Entry j x a b;
+      checks = λ j q x i kd a b c. in_entry (λ gr k z. slice_get z.clause.instrs q ≡ Some i → IsCheckOf (kind_number z.clause.kind) q i) (λ b1. ends_at IsCheck the_check q i kd b1 c) group.Entry j x a b;
       seam_belongs = λ j q x i kd a b c q' lo hi. within q' (omega (arith, lo)) (omega (arith, hi));
     }

@@ -10,7 +10,8 @@ use Rattle.cil_model.specs.declared.contract.Group.{Group}
 use Rattle.cil_model.specs.declared.contract.Group.TheVariants as group
 use Rattle.cil_semantics.specs.ContractCalls.{contract_call}
 use Rattle.cil_semantics.specs.Core.{Name}
-use Rattle.cil_semantics.specs.declared.contract_call.ContractCall.TheVariants.{EndsClause, GivesResult, ChecksHere, NoContractCall}
+use Rattle.cil_semantics.specs.declared.contract_call.ContractCall.TheVariants.{EndsClause, EndsBlock, Abbreviates, GivesResult, ReadsArgument, TakesOld, ChecksHere, NoContractCall}
+use Rattle.cil_semantics.specs.declared.contract_call.ContractCall.{ContractCall}
 use Rattle.cil_semantics.specs.Contracted.{pieces}
 use Rattle.cil_semantics.specs.declared.state.Frame.{Frame}
 use Rattle.cil_semantics.specs.declared.state.ProgramPoint.{ProgramPoint}
@@ -22,7 +23,7 @@ use Rattle.machine_laws.specs.Same.{most_clauses}
 use Rattle.splice_facts.specs.Grown.{IsCopy}
 use Rattle.splice_facts.specs.Layout.{IsHere, CanArrive, Onward, fetch, LeadsOn, never_falls}
 use Rattle.splice_facts.specs.Spliced.{IsInline, IsPlainAt, Spliced, Groups, is_copied, is_guarded}
-use Rattle.splice_facts.specs.Input.{InputFacts, is_group}
+use Rattle.splice_facts.specs.Input.{InputFacts, is_group, is_followed}
 use Rattle.splice_laws.specs.RequiresOnly.{RequiresOnly}
 use Rattle.splice_laws.specs.Straight.{ldarg, ldc, add, ret}
 use Rattle.splice_laws.proofs.RequiresLaws.{requires_meet}
@@ -67,11 +68,34 @@ not_result e = cc e
 not_result_too : EndsClause kind.Requires ≡ GivesResult → ⊥
 not_result_too e = cc e
 
+not_read : NoContractCall ≡ ReadsArgument → ⊥
+not_read e = cc e
+
+not_read_too : EndsClause kind.Requires ≡ ReadsArgument → ⊥
+not_read_too e = cc e
+
 pub not_check : (kd : ClauseKind) → NoContractCall ≡ ChecksHere kd → ⊥
 not_check kd e = cc e
 
 pub not_check_too : (kd : ClauseKind) → EndsClause kind.Requires ≡ ChecksHere kd → ⊥
 not_check_too kd e = cc e
+
+never_read : (q : ℕ) (i : Instr) → slice_get the_piece.clause.instrs q ≡ Some i → contract_call input i ≡ ReadsArgument → ⊥
+never_read q i s c = never_in_condition ReadsArgument not_read not_read_too q i s c
+
+-- no call stands before the last instruction
+never_followed : (q : ℕ) (i : Instr) → slice_get the_piece.clause.instrs q ≡ Some i → is_followed (contract_call input i) ≡ true → ⊥
+never_followed q i s e = by_call (contract_call input i) refl e
+  where
+    by_call : (c : ContractCall) → contract_call input i ≡ c → is_followed c ≡ true → ⊥
+    by_call GivesResult h t = never_in_condition GivesResult not_result not_result_too q i s h
+    by_call ReadsArgument h t = never_read q i s h
+    by_call (ChecksHere kd) h t = never_in_condition (ChecksHere kd) (not_check kd) (not_check_too kd) q i s h
+    by_call (EndsClause kd) h t = cc t
+    by_call EndsBlock h t = cc t
+    by_call Abbreviates h t = cc t
+    by_call TakesOld h t = cc t
+    by_call NoContractCall h t = cc t
 
 abbrev Inline : Frame → List Frame → ProgramPoint → Instr → ClauseKind → ℕ → Name → Type 0
 Inline f fs at i kd home label = IsInline input contracts output numbers 2 depths the_plan 0 f fs at i kd home label
@@ -119,6 +143,7 @@ only =
       no_inline = none_inline;
       no_old = λ gr j q x o e r. in_entry (λ g1 j1 z. Rattle.cil_semantics.specs.Checks.recalled z q ≡ Some o → ⊥) (λ s. let z : None ≡ Some o = s in cc z) gr j x e r;
       no_result = λ gr j q x i e s c. in_entry (λ g1 j1 z. slice_get z.clause.instrs q ≡ Some i → ⊥) (λ s1. never_in_condition GivesResult not_result not_result_too q i s1 c) gr j x e s;
+      loads = λ gr j q x i h e s c. absurd (in_entry (λ g1 j1 z. slice_get z.clause.instrs q ≡ Some i → ⊥) (λ s1. never_read q i s1 c) gr j x e s);
     }
 
 many : 1 ≤ most_clauses contracts input 0 input.methods
@@ -267,6 +292,7 @@ facts =
       pieces = record {
         begins_in = λ gr j x e. in_entry (λ g1 j1 z. (z.from < length z.clause.instrs) × IsTrue (Rattle.splice_facts.specs.Layout.stands_in z z.from)) (omega arith, refl) gr j x e;
         no_such = λ gr j q i here e. never (InGroup gr j q) i here e;
-        has_result = λ gr j q x i f fs m a e s c. absurd (in_entry (λ g1 j1 z. slice_get z.clause.instrs q ≡ Some i → ⊥) (λ s1. never_in_condition GivesResult not_result not_result_too q i s1 c) gr j x e s);
+        has_result = λ gr j q x i f fs m a h e s c. absurd (in_entry (λ g1 j1 z. slice_get z.clause.instrs q ≡ Some i → ⊥) (λ s1. never_in_condition GivesResult not_result not_result_too q i s1 c) gr j x e s);
+        goes_on = λ gr j q x i h e n s c. in_entry (λ g1 j1 z. slice_get z.clause.instrs q ≡ Some i → IsHere (Some the_plan) (InGroup g1 j1 (q + 1))) (λ s1. absurd (never_followed q i s1 c)) gr j x e s;
       };
     }

@@ -1,12 +1,14 @@
 -- The heights of the body's stack, and the whole written program.
 use Rattle.std.proofs.Common.{◌≡◌, ℕ, zero, suc, ◌<◌, ◌≤◌, Bool, true, false, List, [], ◌∷◌, ◌++◌, length, Some, None, Option, refl, sym, ap, ◌∙◌, subst, arith}
-use Rattle.std.specs.Prelude.{slice_get, nat_lt, find, IsTrue, pos, option_map, if◌then◌else◌, Contains, ◌&&◌, not}
+use Rattle.std.specs.Prelude.{slice_get, nat_lt, find, IsTrue, pos, option_map, option_and_then, if◌then◌else◌, Contains, ◌&&◌, not}
 use Rattle.cil_model.specs.declared.ty.Ty.{Ty, out-Ty, Prim}
 use Rattle.cil_model.specs.declared.value.Value.{Value, I4, I8, Native}
 use Rattle.cil_model.specs.declared.body.Instr.{Instr}
 use Rattle.cil_model.specs.declared.program.MethodDesc.{MethodDesc}
 use Rattle.cil_model.specs.declared.program.TypeDesc.{TypeDesc}
 use Rattle.cil_model.specs.declared.contract.ClauseKind.{ClauseKind}
+use Rattle.cil_model.specs.declared.contract.ClauseKind.TheVariants as kind
+use Rattle.cil_model.specs.declared.contract.Group.{Group}
 use Rattle.il_opcodes.specs.Opcodes.{class_of}
 use Rattle.il_opcodes.specs.declared.class.Class.TheVariants as class
 use Rattle.cil_semantics.specs.Words.{maybe}
@@ -25,7 +27,7 @@ use Rattle.cil_semantics.specs.declared.number.Number.{Number}
 use Rattle.cil_semantics.specs.declared.number.Number.TheVariants.{Is, DividesByZero, Overflows}
 use Rattle.cil_semantics.specs.declared.number.Pair.{Pair}
 use Rattle.cil_semantics.specs.declared.number.Pair.TheVariants.{Both4, Both8, BothNative, NoPair}
-use Rattle.cil_semantics.specs.Contracted.{effective_of}
+use Rattle.cil_semantics.specs.Contracted.{Piece, Plan, effective_of}
 use Rattle.cil_semantics.specs.Frames.{Initializer, initializer, initializer_state, is_initializer, ToRun}
 use Rattle.cil_semantics.specs.Instructions.{act}
 use Rattle.cil_semantics.specs.Dispatch.{is_virtual, is_interface_kind, is_interface_at, is_interface}
@@ -34,19 +36,19 @@ use Rattle.cil_semantics.specs.Numbers as number
 use Rattle.cil_semantics.specs.Places.{Truncated, storage, stored_in}
 use Rattle.cil_semantics.specs.Numbers.{B32}
 use Rattle.cil_semantics.specs.Returns.{returned, kept_as}
-use Rattle.cil_semantics.specs.Tokens.{Here}
+use Rattle.cil_semantics.specs.Tokens.{Here, ref_type}
 use Rattle.cil_semantics.specs.Types.{under}
-use Rattle.cil_semantics.specs.Unwind.{body_of, place_in, plan_at}
+use Rattle.cil_semantics.specs.Unwind.{body_of, place_in, plan_at, piece_at}
 use Rattle.machine_rows.specs.Everything.{everything}
 use Rattle.splice_facts.specs.Bodies.{ButBody, SameMethods}
 use Rattle.splice_facts.specs.Input.{InputFacts, StackHeights, LeavesHeight, is_group, top_of}
 use Rattle.splice_facts.specs.Layout.{IsHere, fetch}
-use Rattle.splice_facts.specs.Related.{Rewritten}
+use Rattle.splice_facts.specs.Related.{Rewritten, IsOwnClass}
 use Rattle.splice_facts.specs.Spliced.{Spliced}
 use Rattle.machine_laws.specs.Answers.{is_below}
 use Rattle.splice_rows.specs.OneRequires.{contracts, the_plan, input, output, numbers, written_methods, heights_here, marks_of, Meets}
 use Rattle.splice_rows.proofs.FoundLaws.{OverridesNothing, each_at, found_below}
-use Rattle.splice_rows.proofs.OneRequiresCode.{depths, helpers, code, never_called}
+use Rattle.splice_rows.proofs.OneRequiresCode.{depths, helpers, code, in_entry, never_called}
 use Rattle.splice_rows.proofs.OneRequiresLaws.{each, not_check, not_check_too, only, facts, spliced}
 
 -- ---- heights
@@ -212,7 +214,7 @@ both zero l = (facts, spliced)
 both (suc zero) l = (outside_facts, outside_spliced)
 both (suc (suc m)) l = absurd (omega (arith, l))
 
-with_heights : (m : ℕ) (plan : Rattle.cil_semantics.specs.Contracted.Plan) → m < 2 → plan_at contracts input m ≡ Some plan → StackHeights input contracts numbers m plan
+with_heights : (m : ℕ) (plan : Plan) → m < 2 → plan_at contracts input m ≡ Some plan → StackHeights input contracts numbers m plan
 unfolding everything
 with_heights zero plan l e = let s : the_plan ≡ plan = cc e in subst (StackHeights input contracts numbers 0) s heights
 with_heights (suc zero) plan l e = let z : None ≡ Some plan = e in absurd (cc z)
@@ -279,6 +281,16 @@ no_interface t = by_number (in_set (out-Ty t))
     by_number None = refl
     by_number (Some d) = (are_classes d.0).0
 
+-- no clause is a Requires<E>
+no_exceptions : (m : ℕ) (plan : Plan) (gr : Group) (j : ℕ) (x : Piece) (here : Here) (t : Ty) (d : ℕ × List Ty) → m < 2 → here.method ≡ m → plan_at contracts input m ≡ Some plan → piece_at (Some plan) gr j ≡ Some x → x.clause.kind ≡ kind.RequiresOf
+    → option_and_then (ref_type input here) x.clause.exception ≡ Some t → in_set (out-Ty t) ≡ Some d → IsOwnClass input 2 2 t
+unfolding everything
+no_exceptions zero plan gr j x here t d l me e s kd ex set =
+    let same : the_plan ≡ plan = cc e in
+    absurd (in_entry (λ g1 j1 z. z.clause.kind ≡ kind.RequiresOf → ⊥) (λ q. let z : kind.Requires ≡ kind.RequiresOf = q in cc z) gr j x (subst (λ y. piece_at (Some y) gr j ≡ Some x) (sym same) s) kd)
+no_exceptions (suc zero) plan gr j x here t d l me e s kd ex set = let z : None ≡ Some plan = e in absurd (cc z)
+no_exceptions (suc (suc m)) plan gr j x here t d l me e s kd ex set = absurd (omega (arith, l))
+
 overrides_nothing : OverridesNothing input
 overrides_nothing = record { interfaces = no_interface; rows = λ k. (are_classes k).1; virtual = no_virtual }
 
@@ -302,6 +314,7 @@ whole =
       appended = no_contract;
       guard = let e : 4 ≤ 100 = omega arith in e;
       owned = owned;
+      exceptions = no_exceptions;
       members = members;
       found = λ t s x l old e. found_below input 2 2 overrides_nothing members t s x l e;
     }

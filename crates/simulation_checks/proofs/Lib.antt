@@ -1,0 +1,2 @@
+pub mod NewFrameLaws
+pub mod MakeLaws
