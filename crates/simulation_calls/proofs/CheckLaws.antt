@@ -37,7 +37,7 @@ use Rattle.simulation_steps.proofs.OutsideLaws as Asking
 use Rattle.splice_facts.proofs.AskFrameLaws.{with_frames, ask_frames, event_plain, trigger_plain}
 
 -- a value that comes back from outside leaves the heap as it was
-abbrev KeepsHeap : List Object → Answer → Type 0
+abbrev pub KeepsHeap : List Object → Answer → Type 0
 KeepsHeap heap (Returned v gs u) = u.heap ≡ heap
 KeepsHeap heap (Threw x gs u) = Unit {0}
 KeepsHeap heap (Unfit u) = Unit {0}
@@ -62,7 +62,7 @@ module _ (p : Program) (m : Member) where
       by_test true = tt
       by_test false = tt
 
-  ask_keeps : (values : List Value) (fs : List Frame) (w : World) → ((vs : List Value) → by_ref_args m.params vs ≡ []) → KeepsHeap w.heap (ask p m values fs w)
+  pub ask_keeps : (values : List Value) (fs : List Frame) (w : World) → ((vs : List Value) → by_ref_args m.params vs ≡ []) → KeepsHeap w.heap (ask p m values fs w)
   unfolding ask
   ask_keeps values fs w none = by_cells (stored_args p m.params values)
     where

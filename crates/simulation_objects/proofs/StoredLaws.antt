@@ -49,12 +49,12 @@ module _ (b : Bounds) where
   same_parts : (xs ys : List Value) → Value-F.Struct xs ≡ Value-F.Struct ys → xs ≡ ys
   same_parts xs ys e = cc e
 
-  parts_fine : (v : Value) (vs : List Value) → Fine v → out-Value v ≡ Value-F.Struct vs → AllFine vs
+  pub parts_fine : (v : Value) (vs : List Value) → Fine v → out-Value v ≡ Value-F.Struct vs → AllFine vs
   unfolding Rattle.cil_model.specs.declared.value.Value.out-Value denote.Hole.Carrier.out
   parts_fine (val.Struct' shape row) vs fine e = subst AllFine (sym (val.items_shown-the_row-Value-0 shape row) ∙ same_parts _ vs e) (to_items row fine)
   parts_fine _ vs fine e = absurd (cc e)
 
-  whole_fine : (v : Value) (vs : List Value) → out-Value v ≡ Value-F.Struct vs → AllFine vs → Fine v
+  pub whole_fine : (v : Value) (vs : List Value) → out-Value v ≡ Value-F.Struct vs → AllFine vs → Fine v
   unfolding Rattle.cil_model.specs.declared.value.Value.out-Value denote.Hole.Carrier.out
   whole_fine (val.Struct' shape row) vs e fine = from_items row (subst AllFine (sym (same_parts _ vs e) ∙ val.items_shown-the_row-Value-0 shape row) fine)
   whole_fine _ vs e fine = absurd (cc e)
@@ -63,36 +63,36 @@ module _ (b : Bounds) where
   unfolding Rattle.cil_model.specs.declared.value.Value.out-Value denote.Hole.Carrier.out
   struct_of vs = ap Value-F.Struct (val.items_shown-the_row-Value-0 _ _ ∙ val.items_hidden-the_row-Value-0 vs)
 
-  struct_fine : (vs : List Value) → AllFine vs → Fine (val.Struct vs)
+  pub struct_fine : (vs : List Value) → AllFine vs → Fine (val.Struct vs)
   struct_fine vs fine = whole_fine (val.Struct vs) vs (struct_of vs) fine
 
   -- ---- what a place keeps
 
-  cut_fine : (n : Bits) (s : Bool) (o : Value-F Value) (x : Value) → truncated_value n s o ≡ Some x → Fine x
+  pub cut_fine : (n : Bits) (s : Bool) (o : Value-F Value) (x : Value) → truncated_value n s o ≡ Some x → Fine x
   cut_fine n s (Value-F.I4 z) x e = let q : I4 (truncated_small n s z) ≡ x = cc e in subst Fine q tt
   cut_fine n s _ x e = absurd (cc e)
 
-  long_fine : (o : Value-F Value) (x : Value) → if_long o ≡ Some x → Fine x
+  pub long_fine : (o : Value-F Value) (x : Value) → if_long o ≡ Some x → Fine x
   long_fine (Value-F.I8 z) x e = let q : I8 z ≡ x = cc e in subst Fine q tt
   long_fine _ x e = absurd (cc e)
 
-  native_fine : (o : Value-F Value) (x : Value) → to_native o ≡ Some x → Fine x
+  pub native_fine : (o : Value-F Value) (x : Value) → to_native o ≡ Some x → Fine x
   native_fine (Value-F.Native z) x e = let q : Native z ≡ x = cc e in subst Fine q tt
   native_fine (Value-F.I4 z) x e = let q : Native z ≡ x = cc e in subst Fine q tt
   native_fine _ x e = absurd (cc e)
 
-  same_reference : (o : Value-F Value) (v x : Value) → if_reference o v ≡ Some x → v ≡ x
+  pub same_reference : (o : Value-F Value) (v x : Value) → if_reference o v ≡ Some x → v ≡ x
   same_reference Value-F.Null v x e = cc e
   same_reference (Value-F.Obj k) v x e = cc e
   same_reference (Value-F.Text u) v x e = cc e
   same_reference _ v x e = absurd (cc e)
 
-  same_address : (o : Value-F Value) (v x : Value) → if_address o v ≡ Some x → v ≡ x
+  pub same_address : (o : Value-F Value) (v x : Value) → if_address o v ≡ Some x → v ≡ x
   same_address (Value-F.Ptr q) v x e = cc e
   same_address Value-F.Null v x e = cc e
   same_address _ v x e = absurd (cc e)
 
-  same_unread : (o : Value-F Value) (v x : Value) → if_opaque o v ≡ Some x → v ≡ x
+  pub same_unread : (o : Value-F Value) (v x : Value) → if_opaque o v ≡ Some x → v ≡ x
   same_unread (Value-F.Opaque q) v x e = cc e
   same_unread _ v x e = absurd (cc e)
 
@@ -127,7 +127,7 @@ module _ (b : Bounds) where
   kept_fine store f ts v x Void fine e = absurd (cc e)
 
   module _ (p : Program) where
-    stored_fine : (n : ℕ) (t : Ty) (v x : Value) → Fine v → stored_within n p t v ≡ Some x → Fine x
+    pub stored_fine : (n : ℕ) (t : Ty) (v x : Value) → Fine v → stored_within n p t v ≡ Some x → Fine x
     unfolding stored_within
     stored_fine zero t v x fine e = absurd (cc e)
     stored_fine (suc n) t v x fine e = kept_fine (stored_within n p) (stored_fine n) (field_types p t) v x (storage p t) fine e
@@ -141,14 +141,14 @@ module _ (b : Bounds) where
 
   -- ---- what is read
 
-  fields_fine : (v : Value) → Fine v → AllFine (fields_in (out-Value v))
+  pub fields_fine : (v : Value) → Fine v → AllFine (fields_in (out-Value v))
   fields_fine v fine = by_out (out-Value v) refl
     where
       by_out : (o : Value-F Value) → out-Value v ≡ o → AllFine (fields_in o)
       by_out (Value-F.Struct vs) e = parts_fine v vs fine e
       by_out _ e = tt
 
-  get_fine : (vs : List Value) (i : ℕ) (x : Value) → AllFine vs → slice_get vs i ≡ Some x → Fine x
+  pub get_fine : (vs : List Value) (i : ℕ) (x : Value) → AllFine vs → slice_get vs i ≡ Some x → Fine x
   get_fine [] i x fine e = absurd (cc e)
   get_fine (v ∷ vs) zero x fine e = let q : v ≡ x = cc e in subst Fine q fine.0
   get_fine (v ∷ vs) (suc i) x fine e = get_fine vs i x fine.1 e
@@ -161,7 +161,7 @@ module _ (b : Bounds) where
       by_part more None q z = absurd (cc z)
       by_part more (Some y) q z = more y (get_fine (fields_in (out-Value v)) i y (fields_fine v fine) q) z
 
-  cell_there : (cs : List Cell) (i : ℕ) (c : Cell) → WellFormedCells b cs → slice_get cs i ≡ Some c → Fine c.value
+  pub cell_there : (cs : List Cell) (i : ℕ) (c : Cell) → WellFormedCells b cs → slice_get cs i ≡ Some c → Fine c.value
   cell_there [] i c fine e = absurd (cc e)
   cell_there (x ∷ cs) zero c fine e = let q : x ≡ c = cc e in subst (λ (d : Cell). Fine d.value) q fine.0
   cell_there (x ∷ cs) (suc i) c fine e = cell_there cs i c fine.1 e
@@ -195,7 +195,7 @@ module _ (b : Bounds) where
   objects_fine (y ∷ os) zero o fine e = let q : y ≡ o = cc e in subst (λ (z : Object). WellFormedCells b z.cells) q fine.0
   objects_fine (y ∷ os) (suc i) o fine e = objects_fine os i o fine.1 e
 
-  object_fine : (w : World) (j : ℕ) (o : Object) → WellFormedObjects b w.heap → object_at w j ≡ Some o → WellFormedCells b o.cells
+  pub object_fine : (w : World) (j : ℕ) (o : Object) → WellFormedObjects b w.heap → object_at w j ≡ Some o → WellFormedCells b o.cells
   object_fine w zero o fine e = absurd (cc e)
   object_fine w (suc j) o fine e = objects_fine w.heap j o fine e
 
@@ -223,16 +223,16 @@ module _ (b : Bounds) where
     by_kind first f ts Anything = tt
     by_kind first f ts Void = tt
 
-    default_fine : (n : ℕ) (t : Ty) → Fine (default_within n p t)
+    pub default_fine : (n : ℕ) (t : Ty) → Fine (default_within n p t)
     unfolding default_within
     default_fine zero t = tt
     default_fine (suc n) t = by_kind (default_within n p) (default_fine n) (field_types p t) (storage p t)
 
-    defaults_fine : (ts : List Ty) → WellFormedCells b (default_cells p ts)
+    pub defaults_fine : (ts : List Ty) → WellFormedCells b (default_cells p ts)
     defaults_fine [] = tt
     defaults_fine (t ∷ ts) = (default_fine 1001 t, defaults_fine ts)
 
-    static_cells_fine : (w : World) (t : Ty) → WellFormedStatics b w.statics → WellFormedCells b (static_cells p w t)
+    pub static_cells_fine : (w : World) (t : Ty) → WellFormedStatics b w.statics → WellFormedCells b (static_cells p w t)
     static_cells_fine w t fine = by_statics (find_statics t w.statics) (λ s e. statics_fine t w.statics s fine e)
       where
         by_statics : (o : Option Statics) → ((s : Statics) → o ≡ Some s → WellFormedCells b s.cells) → WellFormedCells b (maybe (default_cells p (map (λ (x : ℕ × Ty). x.1) (static_layout p t))) (λ (s : Statics). s.cells) o)
