@@ -154,6 +154,27 @@ fn parts_are_entered_at_a_try_alone(rt: HostRuntime) {
 }
 
 #[test]
+fn code_falls_into_no_handler(rt: HostRuntime) {
+    let alloc = rt.alloc();
+    let rows = [[0, 1, 1, 2], [0, 1, 2, 4]];
+    let from_the_first_handler = fault_in(
+        alloc,
+        &[0xDE, 4, 0x26, 0x26, 0xDE, 0, 0x2A],
+        false,
+        &rows,
+    );
+    let leave_into_it = fault_in(
+        alloc,
+        &[0xDE, 5, 0xDE, 0, 0x26, 0xDE, 0, 0x2A],
+        false,
+        &rows,
+    );
+    assert!(rt;
+        is_told(from_the_first_handler, Rule::X3, 2) && is_told(leave_into_it, Rule::X3, 2)
+    );
+}
+
+#[test]
 fn a_leave_may_go_into_its_own_try(rt: HostRuntime) {
     let alloc = rt.alloc();
     let within = fault_in(

@@ -7,3 +7,5 @@ mod bodies;
 mod control;
 #[cfg(test)]
 mod stack;
+#[cfg(test)]
+mod trees;

@@ -1,0 +1,4 @@
+pub mod GuardLaws
+pub mod TableLaws
+pub mod CopyLaws
+pub mod DivisionLaws
