@@ -18,19 +18,19 @@ use Rattle.cil_base.specs.declared.tables.TheConstants.{TYPE_DEF, TYPE_REF}
 
 -- ---- lists
 
-range_split : (a n k : ℕ) → range_with_len a (n + k) ≡ range_with_len a n ++ range_with_len (a + n) k
+pub range_split : (a n k : ℕ) → range_with_len a (n + k) ≡ range_with_len a n ++ range_with_len (a + n) k
 range_split a zero k = rw (zero-add k, add-zero a)
 range_split a (suc n) k =
     let shift : (a + 1) + n ≡ a + suc n = omega arith in
     ap (range_with_len a) (suc-add n k) ∙ ap (λ (l : List ℕ). a ∷ l) (range_split (a + 1) n k ∙ ap (λ (b : ℕ). range_with_len (a + 1) n ++ range_with_len b k) shift)
 
-filter_map_on : {B : Type 0} (f g : ℕ → Option B) (a n : ℕ) → ((r : ℕ) → a ≤ r → r < a + n → f r ≡ g r) → filter_map f (range_with_len a n) ≡ filter_map g (range_with_len a n)
+pub filter_map_on : {B : Type 0} (f g : ℕ → Option B) (a n : ℕ) → ((r : ℕ) → a ≤ r → r < a + n → f r ≡ g r) → filter_map f (range_with_len a n) ≡ filter_map g (range_with_len a n)
 filter_map_on f g a zero h = refl
 filter_map_on {B} f g a (suc n) h =
     ap (λ (o : Option B). cons_option o (filter_map f (range_with_len (a + 1) n))) (h a (omega arith) (omega arith))
     ∙ ap (cons_option (g a)) (filter_map_on f g (a + 1) n (λ r low high. h r (omega (arith, low)) (omega (arith, high))))
 
-flat_map_on : {B : Type 0} (f g : ℕ → List B) (a n : ℕ) → ((r : ℕ) → a ≤ r → f r ≡ g r) → flat_map f (range_with_len a n) ≡ flat_map g (range_with_len a n)
+pub flat_map_on : {B : Type 0} (f g : ℕ → List B) (a n : ℕ) → ((r : ℕ) → a ≤ r → f r ≡ g r) → flat_map f (range_with_len a n) ≡ flat_map g (range_with_len a n)
 flat_map_on f g a zero h = refl
 flat_map_on {B} f g a (suc n) h =
     ap (λ (l : List B). l ++ flat_map f (range_with_len (a + 1) n)) (h a (omega arith)) ∙ ap (λ (l : List B). g a ++ l) (flat_map_on f g (a + 1) n (λ r low. h r (omega (arith, low))))
@@ -46,7 +46,7 @@ found_before test i k (x ∷ xs) more e = go (test x) (λ h. found_before test (
 
 -- ---- names, each once
 
-distinct_split : (names l m : List Name) → distinct names (l ++ m) ≡ distinct (distinct names l) m
+pub distinct_split : (names l m : List Name) → distinct names (l ++ m) ≡ distinct (distinct names l) m
 distinct_split names [] m = refl
 distinct_split names (name ∷ l) m = distinct_split (added names name) l m
 

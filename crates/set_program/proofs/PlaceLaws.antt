@@ -19,7 +19,7 @@ skipped test i (x ∷ xs) ys h =
     let place : (i + 1) + length xs ≡ i + suc (length xs) = omega arith in
     ap (λ (b : Bool). cond b (Some i) (position_from test (i + 1) (xs ++ ys))) h.0 ∙ skipped test (i + 1) xs ys h.1 ∙ ap (λ (j : ℕ). position_from test j ys) place
 
-fail_append : {A : Type 0} (test : A → Bool) (xs ys : List A) → AllFail test xs → AllFail test ys → AllFail test (xs ++ ys)
+pub fail_append : {A : Type 0} (test : A → Bool) (xs ys : List A) → AllFail test xs → AllFail test ys → AllFail test (xs ++ ys)
 fail_append test [] ys h k = k
 fail_append test (x ∷ xs) ys h k = (h.0, fail_append test xs ys h.1 k)
 
@@ -27,14 +27,14 @@ fail_append test (x ∷ xs) ys h k = (h.0, fail_append test xs ys h.1 k)
 abbrev pub run : ℕ → ℕ → ℕ → List TypeId
 run a from n = map of_row (map (λ row. (a, row)) (range_with_len from n))
 
-differs : (a b : ℕ) → (a ≡ b → ⊥) → (a == b) ≡ false
+pub differs : (a b : ℕ) → (a ≡ b → ⊥) → (a == b) ≡ false
 differs a b h = search (rules, h)
 
-itself : (a : ℕ) → (a == a) ≡ true
+pub itself : (a : ℕ) → (a == a) ≡ true
 itself a = search rules
 
 -- rows of another assembly
-missed : (a r b from n : ℕ) → (a ≡ b → ⊥) → AllFail (same_id (Row a r)) (run b from n)
+pub missed : (a r b from n : ℕ) → (a ≡ b → ⊥) → AllFail (same_id (Row a r)) (run b from n)
 missed a r b from zero h = tt
 missed a r b from (suc n) h = (ap (λ (c : Bool). if c then r == from else false) (differs a b h), missed a r b (from + 1) n h)
 
@@ -72,7 +72,7 @@ module _ (s : Assemblies) where
   abbrev pub runs : ℕ → ℕ → List TypeId
   runs from n = map of_row (flat_map rows_of_assembly (range_with_len from n))
 
-  all_missed : (a r from n : ℕ) → ((b : ℕ) → from ≤ b → b < from + n → a ≡ b → ⊥) → AllFail (same_id (Row a r)) (runs from n)
+  pub all_missed : (a r from n : ℕ) → ((b : ℕ) → from ≤ b → b < from + n → a ≡ b → ⊥) → AllFail (same_id (Row a r)) (runs from n)
   all_missed a r from zero h = tt
   all_missed a r from (suc n) h =
       subst (AllFail (same_id (Row a r))) (sym (map-append of_row (rows_of_assembly from) (flat_map rows_of_assembly (range_with_len (from + 1) n))))

@@ -12,5 +12,6 @@ mod set;
 pub use identity::TypeId;
 pub use laws::appended_references_keep_types;
 pub use part::Part;
-pub use references::{all_references, reference};
+pub use references::{all_references, assembly_named, found_in, inside, reference};
+pub use row_names::joined;
 pub use set::Set;

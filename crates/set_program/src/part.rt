@@ -51,6 +51,13 @@ impl<'a> Part<'a> {
         })
     }
 
+    /// The assembly by its rows alone.
+    pub fn rows(&self) -> &Rows<'a>
+        ensures { result.now ≡ self.now }
+    {
+        &self.rows
+    }
+
     /// The number in a cell, 0 where there is no such cell.
     pub fn cell(&self, table: u8, row: u32, column: u8) -> u32
         ensures { result ≡ cell self.now table row column }

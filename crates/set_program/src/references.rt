@@ -47,7 +47,7 @@ fn reference_path(alloc: Global, part: &Part<'_>, row: u32) -> Result<Option<Vec
 }
 
 /// The first assembly of a simple name.
-fn assembly_named(set: &[Part<'_>], name: &[u8]) -> Option<u32>
+pub fn assembly_named(set: &[Part<'_>], name: &[u8]) -> Option<u32>
     requires { length set.now < 2 ^ 32 }
     ensures { result ≡ assembly_named set.now name.now }
 {
@@ -61,7 +61,7 @@ fn assembly_named(set: &[Part<'_>], name: &[u8]) -> Option<u32>
 
 /// The type inside another.
 #[tactic(auto, unfolding(crate::specs::References::inside))]
-fn inside(
+pub fn inside(
     alloc: Global,
     set: &[Part<'_>],
     name: &[u8],
@@ -125,7 +125,7 @@ fn asked(alloc: Global, set: &[Part<'_>], name: &[u8], a: u32) -> Result<Step, A
 
 /// The type of a name in an assembly of the set, or where forwarders lead. None where there is
 /// none, or they lead into a circle.
-fn found_in(
+pub fn found_in(
     alloc: Global,
     set: &[Part<'_>],
     name: &[u8],
