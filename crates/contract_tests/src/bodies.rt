@@ -33,7 +33,7 @@ fn summary(answer: &Result<Contract, Fault>) -> Told {
     }
 }
 
-/// What is told of a body of the first method, each of whose instructions is reached.
+/// What is told of a body of the first method.
 fn told_of(alloc: Global, p: &Program, body: &Body) -> Result<Told, AllocError> {
     let Some(own) = p.methods.get(0) else {
         return Ok(Told::Nothing);
@@ -41,14 +41,10 @@ fn told_of(alloc: Global, p: &Program, body: &Body) -> Result<Told, AllocError> 
     if body.instrs.len() > 1000 {
         return Ok(Told::Nothing);
     }
-    let Ok(heights) = heights_in(alloc, p, own, body)? else {
+    let Ok(found) = heights_in(alloc, p, own, body)? else {
         return Ok(Told::Nothing);
     };
-    let reached = vec![in alloc; true; body.instrs.len()]?;
-    if heights.len() != body.instrs.len() {
-        return Ok(Told::Nothing);
-    }
-    let code = Code::new(p, 0, own, body, &heights, &reached);
+    let code = Code::new(p, 0, own, body, &found.heights, found.reached.as_slice());
     let answer = own_contract_of(alloc, &code);
     Ok(summary(&answer))
 }

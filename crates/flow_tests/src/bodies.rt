@@ -84,13 +84,13 @@ pub fn body_with(alloc: Global, code: &[u8], finally: bool, rows: &[[u32; 4]]) -
     Some(body)
 }
 
-/// A code whose only region has a filter from a place on.
-pub fn body_with_filter(alloc: Global, code: &[u8], filter: u32, row: [u32; 4]) -> Option<Body>
+/// A code with one region.
+pub fn body_with_kind(alloc: Global, code: &[u8], kind: RegionKind, row: [u32; 4]) -> Option<Body>
     ensures { IfSome result (λ body. length body.instrs < 2 ^ 32) }
 {
     let mut body = body_with(alloc, code, false, &[])?;
     let region = Region {
-        kind: RegionKind::Filter(filter),
+        kind,
         try_from: row[0],
         try_to: row[1],
         handler_from: row[2],

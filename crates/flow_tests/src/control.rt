@@ -1,9 +1,9 @@
 // Regions, and what goes over their edges.
 ghost use Rattle.std.specs.Prelude.{◌<◌, ◌^◌, length};
 
-use crate::bodies::{body_with, body_with_filter, here, nested_rows};
+use crate::bodies::{body_with, body_with_kind, here, nested_rows};
 use cil_base::Rule;
-use cil_model::Body;
+use cil_model::{Body, RegionKind};
 use region_tree::control_fault;
 use std::alloc::Global;
 
@@ -67,10 +67,10 @@ fn nested_and_separate_regions_are_accepted(rt: HostRuntime) {
 }
 
 fn filter_told(alloc: Global) -> Option<(Rule, u32)> {
-    match body_with_filter(
+    match body_with_kind(
         alloc,
         &[0, 0, 0xDE, 5, 0x26, 0x16, 0x26, 0xDE, 0, 0x2A],
-        3,
+        RegionKind::Filter(3),
         [1, 3, 4, 7],
     ) {
         Some(body) => told(alloc, &body),
@@ -117,8 +117,15 @@ fn ret_and_branches_stay_in_their_part(rt: HostRuntime) {
         &[[0, 1, 1, 3]],
     );
     let fall_out = fault_in(alloc, &[0, 0, 0x26, 0xDE, 0, 0x2A], false, &[[0, 2, 2, 4]]);
+    let fall_into_a_handler = fault_in(
+        alloc,
+        &[0xDE, 4, 0x26, 0x26, 0xDE, 0, 0x2A],
+        false,
+        &[[0, 1, 1, 2], [0, 1, 2, 4]],
+    );
     assert!(rt; is_told(ret_in_a_try, Rule::X3, 1) && is_told(ret_in_a_handler, Rule::X3, 3));
     assert!(rt; is_told(branch_out, Rule::X3, 0) && is_told(fall_out, Rule::X3, 1));
+    assert!(rt; is_told(fall_into_a_handler, Rule::X3, 2));
 }
 
 #[test]

@@ -1,13 +1,13 @@
 // Heights, and what tokens mean.
 ghost use Rattle.std.specs.Prelude.{◌<◌, ◌^◌, length};
 
-use crate::bodies::{body_with, first_row, here};
+use crate::bodies::{body_with, body_with_kind, first_row, here};
 use cil_base::{Fault, Name, Rule, Units};
 use cil_model::{
-    Body, FieldDescs, Meaning, MethodDesc, MethodDescs, Program, TokenRow, TokenRows, Ty,
-    TypeDescs, Tys,
+    Body, FieldDescs, Meaning, MethodDesc, MethodDescs, Program, RegionKind, TokenRow, TokenRows,
+    Ty, TypeDescs, Tys,
 };
-use il_flow::heights_of;
+use il_flow::{Heights, heights_of};
 use std::alloc::{AllocError, Global};
 
 fn put(alloc: Global, rows: &mut TokenRows, table: u8, meaning: Meaning) -> Result<(), AllocError> {
@@ -34,12 +34,20 @@ fn method(alloc: Global) -> Meaning {
     }
 }
 
-/// The first row of each of five tables: a type, a field, a method, a type parameter, and a text.
+fn locals(alloc: Global) -> Result<Meaning, AllocError> {
+    let mut tys = Tys::new(alloc);
+    tys.push(Ty::Prim(8))?;
+    Ok(Meaning::OfLocals(tys))
+}
+
+/// The first row of each of six tables: a type, a field, a method, locals, a type parameter, and a
+/// text.
 fn tokens(alloc: Global) -> Result<TokenRows, AllocError> {
     let mut rows = TokenRows::new(alloc);
     put(alloc, &mut rows, 0x01, Meaning::OfType(Ty::Prim(0x1C)))?;
     put(alloc, &mut rows, 0x04, field())?;
     put(alloc, &mut rows, 0x06, method(alloc))?;
+    put(alloc, &mut rows, 0x11, locals(alloc)?)?;
     put(alloc, &mut rows, 0x1B, Meaning::OfType(Ty::Var(0)))?;
     put(alloc, &mut rows, 0x70, Meaning::OfText(Units::new(alloc)))?;
     Ok(rows)
@@ -83,11 +91,30 @@ enum Told {
     Nothing,
 }
 
+/// Stands for the height of a place to which no path goes.
+const NOWHERE: u32 = u32::MAX;
+
+/// Whether an answer has these heights, 0 where no path goes, and tells just those places apart.
+fn is_so(found: &Heights, expected: &[u32]) -> bool {
+    let heights = found.heights.as_slice();
+    let reached = found.reached.as_slice();
+    if heights.len() != expected.len() || reached.len() != expected.len() {
+        return false;
+    }
+    for k in 0..expected.len() {
+        let goes = expected[k] != NOWHERE;
+        if reached[k] != goes || heights[k] != (if goes { expected[k] } else { 0 }) {
+            return false;
+        }
+    }
+    true
+}
+
 fn told_in(alloc: Global, program: &Program, own: &MethodDesc, body: &Body, heights: &[u32]) -> Told
     requires { length body.now.instrs < 2 ^ 32 }
 {
     match heights_of(alloc, program, own, body, here()) {
-        Ok(found) => Told::Heights(found.as_slice() == heights),
+        Ok(found) => Told::Heights(is_so(&found, heights)),
         Err(Fault::Refused(refusal)) => Told::Refused(refusal.rule, refusal.at),
         Err(_) => Told::Nothing,
     }
@@ -143,7 +170,11 @@ fn breaks(alloc: Global, code: &[u8], max_stack: u16, rule: Rule, at: u32) -> bo
 #[test]
 fn each_path_gives_its_heights(rt: HostRuntime) {
     let alloc = rt.alloc();
-    let behind_a_throw = has_heights(alloc, &[0x14, 0x7A, 0x16, 0x26, 0x2A], &[0, 1, 0, 0, 0]);
+    let behind_a_throw = has_heights(
+        alloc,
+        &[0x14, 0x7A, 0x16, 0x26, 0x2A],
+        &[0, 1, NOWHERE, NOWHERE, NOWHERE],
+    );
     let switch_forward_and_back = has_heights(
         alloc,
         &[
@@ -216,4 +247,58 @@ fn parameters_arguments_and_locals_are_there(rt: HostRuntime) {
     let argument = breaks(alloc, &[0, 0x02, 0x26, 0x2A], 8, Rule::I6, 1);
     let local = breaks(alloc, &[0, 0x06, 0x26, 0x2A], 8, Rule::I6, 1);
     assert!(rt; type_parameter && argument && local);
+}
+
+/// What is told of a load of the first local, where the locals are those of a table's first row.
+fn locals_told(alloc: Global, table: u8) -> Told {
+    match body_with(alloc, &[0x06, 0x26, 0x2A], true, &[]) {
+        Some(mut body) => {
+            body.locals = Some(first_row(table));
+            told_of(alloc, &body, &[0, 1, 0])
+        }
+        None => Told::Nothing,
+    }
+}
+
+/// What is told of a catch of the type that is a table's first row.
+fn catch_told(alloc: Global, table: u8) -> Told {
+    match body_with_kind(
+        alloc,
+        &[0, 0xDE, 3, 0x26, 0xDE, 0, 0x2A],
+        RegionKind::Catch(first_row(table)),
+        [0, 2, 2, 4],
+    ) {
+        Some(body) => told_of(alloc, &body, &[0, 0, 1, 0, 0]),
+        None => Told::Nothing,
+    }
+}
+
+/// What is told of a virtual call behind a nop and constrained. with a table's first row.
+fn constrained_told(alloc: Global, table: u8) -> Told {
+    answer_of(
+        alloc,
+        &[0, 0xFE, 0x16, 1, 0, 0, table, 0x6F, 1, 0, 0, 6, 0x2A],
+        8,
+        true,
+        &[],
+        &[0, 0, 0],
+    )
+}
+
+fn is_broken_at(told: Told, at: u32) -> bool {
+    matches!(told, Told::Refused(Rule::I6, k) if k == at)
+}
+
+#[test]
+fn types_of_locals_catches_and_prefixes_are_there(rt: HostRuntime) {
+    let alloc = rt.alloc();
+    let fit = matches!(locals_told(alloc, 0x11), Told::Heights(true))
+        && matches!(catch_told(alloc, 1), Told::Heights(true))
+        && matches!(constrained_told(alloc, 1), Told::Heights(true));
+    let locals = is_broken_at(locals_told(alloc, 1), 0)
+        && is_broken_at(locals_told(alloc, 0x12), 0);
+    let catches = is_broken_at(catch_told(alloc, 4), 0) && is_broken_at(catch_told(alloc, 0x1B), 0);
+    let prefixes = is_broken_at(constrained_told(alloc, 4), 1)
+        && is_broken_at(constrained_told(alloc, 0x1B), 1);
+    assert!(rt; fit && locals && catches && prefixes);
 }

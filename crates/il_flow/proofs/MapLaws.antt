@@ -20,7 +20,7 @@ use Rattle.il_flow.proofs.NoMapLaws.{In, below_begun, below_end}
 
 -- ---- membership
 
-walk : {X : Type 0} (q : X) (xs : List X) (k : ℕ) → k < length xs → get_or xs k q ≡ q → In q xs
+pub walk : {X : Type 0} (q : X) (xs : List X) (k : ℕ) → k < length xs → get_or xs k q ≡ q → In q xs
 walk q [] k below e = absurd (omega arith)
 walk q (x ∷ xs) zero below e = inl e
 walk q (x ∷ xs) (suc k) below e = inr (walk q xs k (omega arith) e)
@@ -49,7 +49,7 @@ or_none false y e = (refl, e)
 not_both : (x : Bool) → x ≡ true → x ≡ false → ⊥
 not_both x e f = cc
 
-some_same : {x y : ℕ} → Some x ≡ Some y → x ≡ y
+pub some_same : {x y : ℕ} → Some x ≡ Some y → x ≡ y
 some_same e = cc
 
 -- ---- one place is given a height
@@ -133,7 +133,7 @@ each_keeps : (ms : List Mark) (h : ℕ) (ps : List ℕ) (q j : ℕ) → height_a
 each_keeps ms h [] q j e = e
 each_keeps ms h (p ∷ ps) q j e = each_keeps (give ms h p) h ps q j (give_keeps ms h p q j e)
 
-each_size : (ms : List Mark) (h : ℕ) (ps : List ℕ) → length (give_each ms h ps) ≡ length ms
+pub each_size : (ms : List Mark) (h : ℕ) (ps : List ℕ) → length (give_each ms h ps) ≡ length ms
 each_size ms h [] = refl
 each_size ms h (p ∷ ps) = each_size (give ms h p) h ps ∙ give_size ms h p
 
@@ -141,7 +141,7 @@ each_passes : (ms : List Mark) (h : ℕ) (ps : List ℕ) (k j : ℕ) → slice_g
 each_passes ms h [] k j e = e
 each_passes ms h (p ∷ ps) k j e = give_passes ms h p k j (each_passes (give ms h p) h ps k j e)
 
-each_origin : (ms : List Mark) (h : ℕ) (ps : List ℕ) (q j : ℕ) → height_at (give_each ms h ps) q ≡ Some j → (height_at ms q ≡ Some j) ⊎ (In q ps × (j ≡ h))
+pub each_origin : (ms : List Mark) (h : ℕ) (ps : List ℕ) (q j : ℕ) → height_at (give_each ms h ps) q ≡ Some j → (height_at ms q ≡ Some j) ⊎ (In q ps × (j ≡ h))
 each_origin ms h [] q j e = inl e
 each_origin ms h (p ∷ ps) q j e = go (each_origin (give ms h p) h ps q j e)
   where
@@ -177,7 +177,7 @@ begin_keeps : (ms : List Mark) (es : List (ℕ × ℕ)) (q j : ℕ) → height_a
 begin_keeps ms [] q j e = e
 begin_keeps ms (x ∷ es) q j e = begin_keeps (give ms x.1 x.0) es q j (give_keeps ms x.1 x.0 q j e)
 
-begin_size : (ms : List Mark) (es : List (ℕ × ℕ)) → length (begin_each ms es) ≡ length ms
+pub begin_size : (ms : List Mark) (es : List (ℕ × ℕ)) → length (begin_each ms es) ≡ length ms
 begin_size ms [] = refl
 begin_size ms (x ∷ es) = begin_size (give ms x.1 x.0) es ∙ give_size ms x.1 x.0
 
@@ -186,7 +186,7 @@ begin_passes ms [] k j e = e
 begin_passes ms (x ∷ es) k j e = give_passes ms x.1 x.0 k j (begin_passes (give ms x.1 x.0) es k j e)
 
 -- a height comes with one of them
-begin_origin : (ms : List Mark) (es : List (ℕ × ℕ)) (q j : ℕ) → height_at (begin_each ms es) q ≡ Some j → (height_at ms q ≡ Some j) ⊎ ((e : ℕ × ℕ) × In e es × (e.0 ≡ q) × (e.1 ≡ j))
+pub begin_origin : (ms : List Mark) (es : List (ℕ × ℕ)) (q j : ℕ) → height_at (begin_each ms es) q ≡ Some j → (height_at ms q ≡ Some j) ⊎ ((e : ℕ × ℕ) × In e es × (e.0 ≡ q) × (e.1 ≡ j))
 begin_origin ms [] q j e = inl e
 begin_origin ms (x ∷ es) q j e = go (begin_origin (give ms x.1 x.0) es q j e)
   where
@@ -240,7 +240,7 @@ pub record Sound (effect : Instr → Effect) (b : Body) (ms : List Mark) : Type 
   pub passed : (k h : ℕ) (i : Instr) → slice_get ms k ≡ Some (Passed h) → slice_get b.instrs k ≡ Some i
       → (cant_go b.max_stack (effect i) h ≡ false) × ((t : ℕ) → In t (successors k i) → t < length b.instrs → height_at ms t ≡ Some (height_after (effect i) h))
 
-blank_height : (n q h : ℕ) → height_at (replicate n Unseen) q ≡ Some h → ⊥
+pub blank_height : (n q h : ℕ) → height_at (replicate n Unseen) q ≡ Some h → ⊥
 blank_height zero q h e = absurd cc
 blank_height (suc n) zero h e = absurd cc
 blank_height (suc n) (suc q) h e = blank_height n q h e

@@ -19,7 +19,8 @@ use Rattle.cil_model.specs.declared.program.MethodDesc.{MethodDesc}
 use Rattle.il_flow.specs.Lowest.{lowest}
 use Rattle.il_flow.specs.Meanings.{BreaksMeaning, meaning_tests, layer_stands, stands}
 use Rattle.il_flow.specs.Effects.{effect_of}
-use Rattle.il_flow.specs.Heights.{HeightsAnswer}
+use Rattle.il_flow.specs.declared.answer.Heights.{Heights}
+use Rattle.il_flow.specs.Heights.{HeightsAnswer, IsTold}
 use Rattle.il_flow.specs.Methods.{HasHeights}
 use Rattle.il_flow.proofs.LowestLaws.{InOrder, lowest_is_first, mapped_last}
 
@@ -38,9 +39,9 @@ all_mapped f (t ∷ ts) = ap (λ (b : Bool). f t && b) (all_mapped f ts)
 pub instance_stands : (types methods : ℕ) (t : Ty) (k : ℕ) (args : List Ty) → out-Ty t ≡ Ty-F.Inst k args → stands types methods t ≡ list_all (stands types methods) args
 instance_stands types methods t k args e = rw (fold_out-Ty Bool (layer_stands types methods) t, e) (all_mapped (stands types methods) args)
 
-pub has_heights : (p : Program) (own : MethodDesc) (place : Place) (b : Body) (r : Result (List ℕ) Fault) → NoneBroken (BreaksMeaning p own place b) → IfOk r (λ hs. HeightsAnswer (effect_of p own) b (Ok hs)) → IfOk r (HasHeights p own place b)
-has_heights p own place b (Ok hs) none h = record { meant = none; found = h }
-has_heights p own place b (Err e) none h = tt
+pub has_heights : (p : Program) (own : MethodDesc) (place : Place) (b : Body) (r : Result Heights Fault) → NoneBroken (BreaksMeaning p own place b) → IfOk r (λ found. HeightsAnswer (effect_of p own) b (Ok found)) → IfOk r (IsTold b) → IfOk r (HasHeights p own place b)
+has_heights p own place b (Ok found) none h told = record { meant = none; heights = h; told = told }
+has_heights p own place b (Err e) none h told = tt
 
 -- where nothing of the first rule is broken, what is refused is of the later one
 pub in_turn : {T : Type 0} (r : Result T Fault) (B L : Refusal → Type 0) → NoneBroken B → OnRefused r L → OnRefused r (InTurn B L)

@@ -1,5 +1,5 @@
 -- The refusals of a method's body.
-use Rattle.std.specs.Prelude.{◌≡◌, ℕ, List, slice_index, Ok, Err}
+use Rattle.std.specs.Prelude.{◌≡◌, ℕ, slice_index, Ok, Err}
 use Rattle.cil_base.specs.declared.rule.Rule.TheVariants.{I4}
 use Rattle.cil_base.specs.declared.refusal.Place.{Place}
 use Rattle.cil_base.specs.declared.refusal.Refusal.{Refusal}
@@ -10,7 +10,8 @@ use Rattle.cil_model.specs.declared.program.Program.{Program}
 use Rattle.cil_model.specs.declared.program.MethodDesc.{MethodDesc}
 use Rattle.il_flow.specs.declared.effect.Effect.{Effect}
 use Rattle.il_flow.specs.Effects.{effect_of}
-use Rattle.il_flow.specs.Heights.{HeightsAnswer}
+use Rattle.il_flow.specs.declared.answer.Heights.{Heights}
+use Rattle.il_flow.specs.Heights.{HeightsAnswer, IsTold}
 use Rattle.il_flow.specs.Meanings.{BreaksMeaning}
 
 -- the row of a method (II.22.26)
@@ -21,7 +22,8 @@ place_of d = record { assembly = d.assembly; table = 0x06; row = d.row }
 abbrev pub BreaksHeights : (Instr → Effect) → Place → Body → Refusal → Type 0
 BreaksHeights effect place b r = (q : ℕ) × HeightsAnswer effect b (Err q) × (r ≡ refusal I4 place (slice_index b.offsets q))
 
--- Each token and index of the body means what it has to, and these are the heights that the search leaves.
-pub record HasHeights (p : Program) (own : MethodDesc) (place : Place) (b : Body) (heights : List ℕ) : Type 0 where
+-- Each token and index of the body means what it has to, these are the heights that the search leaves, and these the places that a path leads to.
+pub record HasHeights (p : Program) (own : MethodDesc) (place : Place) (b : Body) (found : Heights) : Type 0 where
   pub meant : NoneBroken (BreaksMeaning p own place b)
-  pub found : HeightsAnswer (effect_of p own) b (Ok heights)
+  pub heights : HeightsAnswer (effect_of p own) b (Ok found)
+  pub told : IsTold b found

@@ -1,6 +1,5 @@
 // How an instruction changes the height of the stack.
-ghost use Rattle.std.specs.Prelude.{◌≡◌, ◌+◌, ◌≤◌, ◌<◌, ◌^◌, ◌==◌, ◌&&◌, length, find, option_map};
-ghost use Rattle.cil_model.specs.declared.program.TokenRow.{TokenRow};
+ghost use Rattle.std.specs.Prelude.{◌≡◌, ◌+◌, ◌≤◌, ◌<◌, ◌^◌, length};
 ghost use Rattle.std.specs.Option.{option_copied, option_map_or};
 ghost use Rattle.cil_model.specs.declared.ty.Ty.{out-Ty};
 ghost use Rattle.cil_semantics.specs.Types.{is_prim};
@@ -9,7 +8,7 @@ ghost use Rattle.cil_semantics.specs.Tokens.{meaning_of};
 ghost use Rattle.il_flow.specs.Effects.{count_arguments, count_results, effect_by, effect_of, member, plain};
 
 use cil_base::Token;
-use cil_model::{Instr, Meaning, MethodDesc, Operand, Program, TokenRow, Ty};
+use cil_model::{Instr, Meaning, MethodDesc, Operand, Program, Ty};
 use il_opcodes::{Class, Opcode, find_opcode};
 
 /// How many values an instruction takes from the stack and leaves there. `takes_all` says that no
@@ -45,29 +44,12 @@ pub fn arguments_of(method: &MethodDesc) -> usize
     if method.is_static { params } else { params + 1 }
 }
 
-fn is_row(row: &TokenRow, assembly: u32, token: Token) -> bool
-    ensures { result ≡ ((row.now.assembly == assembly) && ((row.now.token.table == token.table) && (row.now.token.row == token.row))) }
-{
-    row.assembly == assembly && row.token.table == token.table && row.token.row == token.row
-}
-
-fn meaning_among(rows: &[TokenRow], assembly: u32, token: Token) -> Option<&Meaning>
-    ensures { option_copied result ≡ option_map (λ (row : TokenRow). row.meaning) (find (λ (row : TokenRow). (row.assembly == assembly) && ((row.token.table == token.table) && (row.token.row == token.row))) rows.now) }
-{
-    for row in rows {
-        if is_row(row, assembly, token) {
-            return Some(&row.meaning);
-        }
-    }
-    None
-}
-
 /// What a token of an assembly means.
 #[tactic(auto, unfolding(cil_semantics::specs::Tokens::meaning_of))]
 pub fn meaning_in(program: &Program, assembly: u32, token: Token) -> Option<&Meaning>
     ensures { option_copied result ≡ meaning_of program.now assembly token }
 {
-    meaning_among(program.tokens.as_slice(), assembly, token)
+    program.tokens.meaning(assembly, token)
 }
 
 fn plain(takes: usize, leaves: u8) -> Effect

@@ -1,6 +1,7 @@
 //! What a body's code does to its stack: heights, boundaries and closed ranges.
 #![tactic(auto)]
 
+mod answer;
 mod begin;
 mod boundary;
 mod clash;
@@ -15,6 +16,7 @@ mod queue;
 mod range;
 mod search;
 
+pub use answer::{Answers, Heights};
 pub use boundary::boundaries;
 pub use clash::falls_through;
 pub use effect::{Effect, arguments_of, effect_in, meaning_in};

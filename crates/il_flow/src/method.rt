@@ -7,9 +7,10 @@ ghost use Rattle.il_flow.specs.Effects.{effect_of};
 ghost use Rattle.il_flow.specs.Meanings.{BreaksMeaning};
 ghost use Rattle.il_flow.specs.Methods.{BreaksHeights, HasHeights, place_of};
 
+use crate::answer::Heights;
 use crate::height::checked_heights;
 use crate::meaning::meaning_fault;
-use cil_base::{Fault, Place, U32s};
+use cil_base::{Fault, Place};
 use cil_model::{Body, MethodDesc, Program};
 use std::alloc::Global;
 
@@ -23,15 +24,15 @@ fn place_of(method: &MethodDesc) -> Place
     }
 }
 
-/// The height of the stack before each instruction of a body, 0 where no path goes. It is refused by
-/// I6, and where nothing breaks that by I4.
+/// The height of the stack before each instruction of a body, and the places that paths lead to. It is
+/// refused by I6, and where nothing breaks that by I4.
 pub fn heights_of(
     alloc: Global,
     program: &Program,
     own: &MethodDesc,
     body: &Body,
     place: Place,
-) -> Result<U32s, Fault>
+) -> Result<Heights, Fault>
     requires { length body.now.instrs < 2 ^ 32 }
     ensures heights { IfOk result (HasHeights program.now own.now place body.now) }
     ensures broken { OnRefused result (InTurn (BreaksMeaning program.now own.now place body.now) (BreaksHeights (effect_of program.now own.now) place body.now)) }
@@ -42,9 +43,9 @@ pub fn heights_of(
     checked_heights(alloc, program, own, body, place)
 }
 
-/// The height of the stack before each instruction of a method's body, 0 where no path goes. It is
-/// refused by I6, and where nothing breaks that by I4.
-pub fn heights(alloc: Global, program: &Program, m: u32) -> Result<U32s, Fault>
+/// The height of the stack before each instruction of a method's body, and the places that paths lead
+/// to. It is refused by I6, and where nothing breaks that by I4.
+pub fn heights(alloc: Global, program: &Program, m: u32) -> Result<Heights, Fault>
     requires there { m < length program.now.methods }
     requires body { IsSome (method_of program.now m).body }
     requires few { length (body_of program.now m).instrs < 2 ^ 32 }
