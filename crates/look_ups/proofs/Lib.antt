@@ -1,0 +1,9 @@
+pub mod TypeLaws
+pub mod ListLaws
+pub mod CoreLaws
+pub mod VisibleLaws
+pub mod AnyLaws
+pub mod ChainLaws
+pub mod SourceLaws
+pub mod SlotLaws
+pub mod OverrideLaws
