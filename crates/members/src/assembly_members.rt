@@ -6,9 +6,9 @@ ghost use Rattle.set_signatures.specs.Shapes.{is_same};
 ghost use Rattle.set_signatures.specs.declared.shape.Shape.{Shape};
 ghost use Rattle.set_names.specs.Names.{number_under};
 ghost use Rattle.members.specs.Keys.{member_key};
-ghost use Rattle.members.specs.MemberRows.{declared};
+ghost use Rattle.members.specs.MemberRows.{declared, row_owner};
 
-use crate::declaring::{first_declared, member_key, members_by_key};
+use crate::declaring::{first_declared, member_key, members_by_key, owner_at};
 use crate::keys::Keys;
 use cil_base::U32s;
 use set_rows::{Rows, owners};
@@ -52,6 +52,16 @@ impl<'a> AssemblyMembers<'a> {
             fields,
             methods,
         })
+    }
+
+    /// The TypeDef row that owns a row of Field, or of MethodDef.
+    pub fn owner(&self, is_field: bool, row: u32) -> Option<u32>
+        ensures { result ≡ row_owner self.now.rows is_field row }
+    {
+        if is_field {
+            return owner_at(self.field_owners.as_slice(), row);
+        }
+        owner_at(self.method_owners.as_slice(), row)
     }
 
     /// The first member of a type with this name and signature.

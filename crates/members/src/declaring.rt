@@ -83,7 +83,7 @@ pub fn member_key(alloc: Global, owner: u32, shape: &Shape) -> Result<U32s, Allo
     Ok(key)
 }
 
-fn owner_at(owners: &[u32], row: u32) -> Option<u32>
+pub fn owner_at(owners: &[u32], row: u32) -> Option<u32>
     ensures { result ≡ row_in owners.now row }
 {
     if row == 0 || row as usize > owners.len() || owners[row as usize - 1] == 0 {

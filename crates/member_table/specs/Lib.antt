@@ -1,0 +1,4 @@
+pub mod Environments
+pub mod Members
+pub mod Numbers
+pub mod MemberRules

@@ -1,0 +1,2 @@
+pub mod ParameterCounts
+pub mod BlobKinds
