@@ -1,0 +1,2 @@
+mod RowListLaws
+mod TokenLaws

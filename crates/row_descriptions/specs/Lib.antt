@@ -1,0 +1,4 @@
+pub mod RowLists
+pub mod UserTexts
+pub mod TokenTables
+pub mod RowDescriptions
