@@ -1,0 +1,4 @@
+mod SignatureLaws
+mod NotedLaws
+mod MeaningLaws
+mod TypeLaws
