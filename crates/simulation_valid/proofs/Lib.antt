@@ -20,3 +20,9 @@ pub mod CallValidLaws
 pub mod StepValidLaws
 pub mod PlaceActLaws
 pub mod PointerActLaws
+pub mod OperandLaws
+pub mod NumberActLaws
+pub mod ObjectActLaws
+pub mod FieldActLaws
+pub mod ArrayActLaws
+pub mod ClassActLaws

@@ -30,7 +30,7 @@ module _ (p : Program) (k : Contracts) (ms : List MethodDesc) (g : AddedNumbers)
   Fine a = FineAct p k ms g r f fs a
 
   -- a branch is taken, or passed over
-  branch_fine : (o : Operand) (b : Bool) (s : List Value) → WellFormedValues Bs s → Fine (branch o b (record f.local { stack = s }))
+  pub branch_fine : (o : Operand) (b : Bool) (s : List Value) → WellFormedValues Bs s → Fine (branch o b (record f.local { stack = s }))
   branch_fine (Target t) true s h = (restacked p k ms g r f s fs places h, refl)
   branch_fine (Target t) false s h = (tt, restacked p k ms g r f s fs places h, refl)
   branch_fine _ b s h = tt
@@ -47,7 +47,7 @@ module _ (p : Program) (k : Contracts) (ms : List MethodDesc) (g : AddedNumbers)
       by_truth (Some b) = branch_fine o (is_wanted wanted b) rest h.1
 
   -- an act behind a pointer on the stack
-  at_pointer : (v : Value) (go : Pointer → Act) → WellFormedValue Bs v → ((q : Pointer) → WellFormedPointer Bs q → Fine (go q)) → Fine (on_pointer v go)
+  pub at_pointer : (v : Value) (go : Pointer → Act) → WellFormedValue Bs v → ((q : Pointer) → WellFormedPointer Bs q → Fine (go q)) → Fine (on_pointer v go)
   unfolding val.out-Value denote.Hole.Carrier.out
   at_pointer (val.Ptr q) go fv h = h q fv
   at_pointer _ go fv h = tt

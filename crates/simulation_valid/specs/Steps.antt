@@ -10,13 +10,18 @@ use Rattle.cil_model.specs.declared.contract.ClauseKind.TheVariants as kind
 use Rattle.cil_model.specs.declared.contract.Group.{Group}
 use Rattle.cil_model.specs.declared.program.Program.{Program}
 use Rattle.cil_model.specs.declared.program.MethodDesc.{MethodDesc}
+use Rattle.cil_model.specs.declared.program.Meaning.{Meaning}
+use Rattle.cil_model.specs.declared.program.Meaning.TheVariants.{OfField, OfMethod}
 use Rattle.cil_model.specs.declared.run.Reply.{Reply}
 use Rattle.cil_model.specs.NoContracts.{no_contracts}
 use Rattle.il_opcodes.specs.declared.class.Storage.{Storage}
+use Rattle.il_opcodes.specs.declared.class.Class.{Class}
+use Rattle.il_opcodes.specs.declared.class.Class.TheVariants as class
+use Rattle.il_opcodes.specs.Opcodes.{class_of}
 use Rattle.cil_semantics.specs.Core.{Name}
 use Rattle.cil_semantics.specs.Lookups.{args_of}
 use Rattle.cil_semantics.specs.Places.{storage, is_void}
-use Rattle.cil_semantics.specs.Tokens.{ref_type}
+use Rattle.cil_semantics.specs.Tokens.{ref_type, meaning_here}
 use Rattle.cil_semantics.specs.declared.state.Cell.{Cell}
 use Rattle.cil_semantics.specs.declared.state.World.{World}
 use Rattle.cil_semantics.specs.declared.state.Local.{Local}
@@ -40,7 +45,7 @@ use Rattle.cil_semantics.specs.declared.state.Continuation.TheVariants.{Push}
 use Rattle.cil_semantics.specs.Checks.{AddedNumbers, Failure, Sequel, Condition, made_type, throw_exception, goes_on_from, check_inline, end_clause, capture}
 use Rattle.cil_semantics.specs.Acts.{Act, Stuck, GoOn, Jump, Raise, Throw, Rethrow, Leave, EndHandler, Return, Load, Store, Copy, UseStatic, CallMember, CallVirtual, NewObject, LoadVirtualFunction}
 use Rattle.cil_semantics.specs.Machine.{start, perform, run_plain}
-use Rattle.cil_semantics.specs.Instructions.{act}
+use Rattle.cil_semantics.specs.Instructions.{act, act_of_class}
 use Rattle.machine_laws.specs.Answers.{is_below}
 use Rattle.machine_laws.specs.Same.{IsEntry}
 use Rattle.splice_facts.specs.WellFormed.{Bounds, WellFormedObjects, WellFormedValue, WellFormedValues, WellFormedCells, WellFormedIf, WellFormedWorld, WellFormedContinuation, WellFormedPointer, WellFormedAccess}
@@ -181,6 +186,30 @@ module _ (p : Program) (k : Contracts) (ms : List MethodDesc) (g : AddedNumbers)
   FineAct f fs (NewObject c l) = ⊥
   FineAct f fs (LoadVirtualFunction c l) = ⊥
 
+  -- a frame may go on where its innermost handler leads
+  abbrev pub HandlerLeads : Frame → List Handling → Type 0
+  HandlerLeads f [] = Unit {0}
+  HandlerLeads f (h ∷ hs) = IsHere (plan_at k p f.method) (moved_to h.place f.at) × MayResume f h.cause
+
+  -- a field or a method that a token names is of the input, and no type argument of the field's owner is void
+  abbrev pub NamesInput : Option Meaning → Type 0
+  NamesInput (Some (OfField owner field)) = IsTrue (is_below r.types owner) × NoneVoid p (args_of owner)
+  NamesInput (Some (OfMethod owner method args)) = method < r.methods
+  NamesInput m = Unit {0}
+
+  -- What is asked of an instruction by its class (ECMA-335, Partition III): where it takes a function or a static, what its token names; where a handler ends, where that leads; of a call that it is stuck, and so calls nothing.
+  abbrev pub MayStep : Instr → Frame → List Frame → World → Class → Type 0
+  MayStep i f fs w class.LoadFunction = NamesInput (meaning_here p (here_of f fs) i)
+  MayStep i f fs w class.LoadStatic = NamesInput (meaning_here p (here_of f fs) i)
+  MayStep i f fs w class.StaticAddress = NamesInput (meaning_here p (here_of f fs) i)
+  MayStep i f fs w class.StoreStatic = NamesInput (meaning_here p (here_of f fs) i)
+  MayStep i f fs w class.EndFinally = HandlerLeads f f.handling
+  MayStep i f fs w class.Call = FineAct f fs (act_of_class p (here_of f fs) i w f.local class.Call)
+  MayStep i f fs w class.CallVirtual = FineAct f fs (act_of_class p (here_of f fs) i w f.local class.CallVirtual)
+  MayStep i f fs w class.NewObject = FineAct f fs (act_of_class p (here_of f fs) i w f.local class.NewObject)
+  MayStep i f fs w class.LoadVirtualFunction = FineAct f fs (act_of_class p (here_of f fs) i w f.local class.LoadVirtualFunction)
+  MayStep i f fs w c = Unit {0}
+
   -- the frames that a call of a method leaves behind
   pub record MayCall (m : ℕ) (fs : List Frame) (w : World) : Type 0 where
     pub tail : ValidTail p k ms g r Push fs
@@ -195,10 +224,14 @@ module _ (p : Program) (k : Contracts) (ms : List MethodDesc) (g : AddedNumbers)
   abbrev pub PerformsValid : Type 0
   PerformsValid = (a : Act) (f : Frame) (fs : List Frame) (w : World) → RunsHere f fs w → ValidAct f fs a → StaysValid p k ms g r (perform p k g a f fs w)
 
-  -- A step at an instruction that calls nothing, whose act leaves well-formed values.
+  -- What an instruction leaves is well formed, by its class.
+  abbrev pub ActsFine : Type 0
+  ActsFine = (i : Instr) (f : Frame) (fs : List Frame) (w : World) → RunsHere f fs w → fetch p k g (plan_at k p f.method) f.method f.at ≡ Some i → MayStep i f fs w (class_of i.op) → FineAct f fs (act p (here_of f fs) i w f.local)
+
+  -- A step at an instruction that calls nothing.
   abbrev pub StepsValid : Type 0
   StepsValid =
-      (i : Instr) (f : Frame) (fs : List Frame) (w : World) → RunsHere f fs w → HasHeight p k ms g r f f.at 0 → fetch p k g (plan_at k p f.method) f.method f.at ≡ Some i → FineAct f fs (act p (here_of f fs) i w f.local) → StaysValid p k ms g r (run_plain p k g i f fs w)
+      (i : Instr) (f : Frame) (fs : List Frame) (w : World) → RunsHere f fs w → HasHeight p k ms g r f f.at 0 → fetch p k g (plan_at k p f.method) f.method f.at ≡ Some i → MayStep i f fs w (class_of i.op) → StaysValid p k ms g r (run_plain p k g i f fs w)
 
   abbrev pub PushesValid : Type 0
   PushesValid = (v : Option Value) (fs : List Frame) (w : World) → MayPush fs w → WellFormedIf Bs v → NextHeight (length (top_of v)) fs → StaysValid p k ms g r (push_below p k v fs w)

@@ -8,7 +8,7 @@ ghost use Rattle.cil_model.specs.declared.program.MethodDesc.{MethodDesc};
 ghost use Rattle.cil_model.specs.declared.program.Program.{Program};
 ghost use Rattle.cil_semantics.specs.Checks.{AddedNumbers};
 ghost use Rattle.simulation_valid.specs.Keeping.{ArrivesValid, UnwindsValid};
-ghost use Rattle.simulation_valid.specs.Steps.{StepsValid, CallsValid, PerformsValid, PushesValid, LeavesValid, ResumesValid, LoadsValid, StoresValid, StaticsValid, EntersValid, ReturnsValid, PiecesEndValid, AsksValid, ClausesEndValid, CapturesValid, ChecksHereValid, StartsAlike, StartsValid};
+ghost use Rattle.simulation_valid.specs.Steps.{ActsFine, StepsValid, CallsValid, PerformsValid, PushesValid, LeavesValid, ResumesValid, LoadsValid, StoresValid, StaticsValid, EntersValid, ReturnsValid, PiecesEndValid, AsksValid, ClausesEndValid, CapturesValid, ChecksHereValid, StartsAlike, StartsValid};
 ghost use Rattle.splice_facts.specs.Related.{Rewritten};
 
 /// Exceptions go down frames, frames arrive at places, values are pushed, and handlers end: what the run
@@ -24,6 +24,7 @@ pub fn frames_stay_valid()
 /// Acts that call nothing, with loads, stores and uses of statics, leave frames and world valid.
 pub fn places_stay_valid()
     ensures stepping { (p : Program) (k : Contracts) (ms : List MethodDesc) (g : AddedNumbers) (r : Rewritten p k ms g) → StepsValid p k ms g r }
+    ensures instructions { (p : Program) (k : Contracts) (ms : List MethodDesc) (g : AddedNumbers) (r : Rewritten p k ms g) → ActsFine p k ms g r }
     ensures acts { (p : Program) (k : Contracts) (ms : List MethodDesc) (g : AddedNumbers) (r : Rewritten p k ms g) → PerformsValid p k ms g r }
     ensures loading { (p : Program) (k : Contracts) (ms : List MethodDesc) (g : AddedNumbers) (r : Rewritten p k ms g) → LoadsValid p k ms g r }
     ensures storing { (p : Program) (k : Contracts) (ms : List MethodDesc) (g : AddedNumbers) (r : Rewritten p k ms g) → StoresValid p k ms g r }

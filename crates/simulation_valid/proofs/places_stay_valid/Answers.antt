@@ -1,5 +1,5 @@
 use Rattle.simulation_valid.proofs.places_stay_valid.Goals as goal
-use Rattle.simulation_valid.proofs.StepValidLaws.{steps_valid}
+use Rattle.simulation_valid.proofs.StepValidLaws.{acts_fine, steps_valid}
 use Rattle.simulation_valid.proofs.PerformValidLaws.{performs_valid}
 use Rattle.simulation_valid.proofs.MoveValidLaws.{loads_valid, stores_valid, uses_static_valid}
 
@@ -17,3 +17,6 @@ returns-clause-acts c = λ p k ms g r. performs_valid p k ms g r
 
 pub returns-clause-stepping : goal.returns-clause-stepping
 returns-clause-stepping c = λ p k ms g r. steps_valid p k ms g r
+
+pub returns-clause-instructions : goal.returns-clause-instructions
+returns-clause-instructions c = λ p k ms g r. acts_fine p k ms g r
