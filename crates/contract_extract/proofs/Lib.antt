@@ -1,3 +1,4 @@
 pub mod ExceptionLaws
 pub mod NumberLaws
 pub mod TestLaws
+pub mod MethodLaws

@@ -188,7 +188,7 @@ fn static_call(p: &Program, meaning: Option<&Meaning>) -> ContractCall
     }
 }
 
-/// What an operand's token means. It tries all of the program's tokens.
+/// What an operand's token means.
 pub fn own_meaning<'a>(p: &'a Program, operand: &Operand) -> Option<&'a Meaning>
     ensures { option_copied result ≡ own_meaning p.now operand.now }
 {

@@ -1,7 +1,7 @@
 -- Own contracts of small methods, computed.
 use Rattle.std.proofs.Common.{refl}
 use Rattle.contract_rows.specs.Everything.{everything}
-use Rattle.contract_rows.specs.Rows.{AccountConstructorHasALeadIn, AccountTakeHasTwoClauses, AccountInvariantIsAClause, AccountBreaksNoRule, IfThrowIsLeadIn, EndContractBlockIsNoClause, LabelsCountRequiresTogether, EachClauseHasItsOwnLocals, AssertsAreNumberedOverTheBody, ClauseSetsUpItsClosure, ThoseBreakNoRule, CrossedCallsBreak1, BadSegmentsBreak2, StrayCallsBreak3, BadOldValuesBreak4, ThrowInASegmentBreaks5, SharedLocalsBreak6, WrongTypesBreak7, InnerClosureIsSetUpFirst}
+use Rattle.contract_rows.specs.Rows.{AccountConstructorHasALeadIn, AccountTakeHasTwoClauses, AccountInvariantIsAClause, AccountBreaksNoRule, IfThrowIsLeadIn, EndContractBlockIsNoClause, LabelsCountRequiresTogether, MessageIsAStaticField, EachClauseHasItsOwnLocals, AssertsAreNumberedOverTheBody, ClauseSetsUpItsClosure, ThoseBreakNoRule, CrossedCallsBreak1, BadSegmentsBreak2, StrayCallsBreak3, BadOldValuesBreak4, ThrowInASegmentBreaks5, SharedLocalsBreak6, WrongTypesBreak7, InnerClosureIsSetUpFirst}
 
 pub account_constructor_has_a_lead_in : AccountConstructorHasALeadIn
 unfolding everything
@@ -30,6 +30,10 @@ end_contract_block_is_no_clause = refl
 pub labels_count_requires_together : LabelsCountRequiresTogether
 unfolding everything
 labels_count_requires_together = refl
+
+pub message_is_a_static_field : MessageIsAStaticField
+unfolding everything
+message_is_a_static_field = refl
 
 pub each_clause_has_its_own_locals : EachClauseHasItsOwnLocals
 unfolding everything

@@ -13,7 +13,7 @@ use Rattle.cil_semantics.specs.Core.{Name, class_named}
 use Rattle.machine_rows.specs.Samples.{instr, bare, ldarg, ldloc, stloc, int, jump, ret, body, method, int_ty, void_ty, member_token}
 use Rattle.contract_parts.specs.Flow.{Code}
 use Rattle.contract_extract.specs.OwnContract.{own_contract}
-use Rattle.contract_rows.specs.Samples.{sample, sample_of, code, first_broken, with_closure, requires, requires_with, requires_of, ensures_call, on_throw, invariant_call, assert_call, end_block, result, old_value, value_at_return, new_exception, object_constructor, log_get, with_field, ldstr, locals_token, new_closure, with_closure_field}
+use Rattle.contract_rows.specs.Samples.{sample, sample_of, code, first_broken, with_closure, requires, requires_with, requires_of, ensures_call, on_throw, invariant_call, assert_call, end_block, result, old_value, value_at_return, new_exception, object_constructor, log_get, with_field, ldstr, locals_token, new_closure, with_closure_field, sample_with_message, load_message}
 use Rattle.contract_extract.specs.Clauses.{ref}
 
 -- ---- words
@@ -122,6 +122,25 @@ LabelsCountRequiresTogether =
       asserts = [];
     }
 
+-- ---- Requires(x > 0, T.Message), whose message is a static field
+
+abbrev pub with_message_instrs : List Instr
+with_message_instrs = ldarg 0 ∷ int 0 ∷ bare 0xFE02 ∷ load_message ∷ requires_with ∷ ldarg 0 ∷ ret ∷ []
+
+abbrev pub with_message : Code
+with_message =
+    code (sample_with_message (codes "T") (method 0 (codes "M") (int_ty ∷ []) int_ty (body with_message_instrs [] None))) with_message_instrs []
+
+abbrev pub MessageIsAStaticField : Type 0
+MessageIsAStaticField =
+    own_contract with_message
+    ≡ record {
+      lead_end = 0;
+      rest_from = 5;
+      clauses = record (clause kind.Requires (codes "T::M/requires/0") (ldarg 0 ∷ int 0 ∷ bare 0xFE02 ∷ load_message ∷ requires_with ∷ [])) { user = true } ∷ [];
+      asserts = [];
+    }
+
 -- ---- two clauses that store and load one local, and branch: int y = x; Requires(y > 0 && x < 9), twice
 
 abbrev pub own_copy : Instr → List Instr
@@ -212,8 +231,8 @@ InnerClosureIsSetUpFirst =
 
 abbrev pub ThoseBreakNoRule : Type 0
 ThoseBreakNoRule =
-    map first_broken (legacy ∷ legacy_block ∷ several ∷ shared_local ∷ asserted ∷ captured ∷ nested ∷ [])
-    ≡ None ∷ None ∷ None ∷ None ∷ None ∷ None ∷ None ∷ []
+    map first_broken (legacy ∷ legacy_block ∷ several ∷ with_message ∷ shared_local ∷ asserted ∷ captured ∷ nested ∷ [])
+    ≡ None ∷ None ∷ None ∷ None ∷ None ∷ None ∷ None ∷ None ∷ []
 
 -- ---- each rule, broken in each of its ways
 

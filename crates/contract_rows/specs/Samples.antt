@@ -191,6 +191,27 @@ with_closure p =
           ∷ record { assembly = 0; token = closure_field; meaning = OfField (Known (length p.types)) 1 } ∷ p.tokens;
     }
 
+-- ---- a static field that holds a message
+
+abbrev pub message_token : Token
+message_token = record { table = 0x04; row = 3 }
+
+abbrev pub load_message : Instr
+load_message = instr 0x7E (Tok 0 message_token)
+
+abbrev pub message_field : FieldDesc
+message_field = record { owner = 0; name = codes "Message"; ty = string_ty; is_static = true; flags = 0x16 }
+
+-- the program of one class of this name with one method, and with this field
+abbrev pub sample_with_message : Name → MethodDesc → Program
+sample_with_message name m =
+    let p : Program = sample name m in
+    record p {
+      types = record (class_with name (0 ∷ [])) { fields = 0 ∷ 1 ∷ [] } ∷ outside_class contract_name ∷ [];
+      fields = p.fields ++ message_field ∷ [];
+      tokens = record { assembly = 0; token = message_token; meaning = OfField (Known 0) 1 } ∷ p.tokens;
+    }
+
 -- ---- heights of samples, found in one pass: no code of theirs is reached by backward branches alone
 
 abbrev pub recorded : ℕ → List (ℕ × ℕ) → Option ℕ

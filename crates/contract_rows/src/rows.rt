@@ -1,6 +1,6 @@
 // Own contracts of small methods, computed from the definitions. The methods stand in `specs/Rows.antt`.
 
-ghost use Rattle.contract_rows.specs.Rows.{AccountConstructorHasALeadIn, AccountTakeHasTwoClauses, AccountInvariantIsAClause, AccountBreaksNoRule, IfThrowIsLeadIn, EndContractBlockIsNoClause, LabelsCountRequiresTogether, EachClauseHasItsOwnLocals, AssertsAreNumberedOverTheBody, ClauseSetsUpItsClosure, ThoseBreakNoRule, CrossedCallsBreak1, BadSegmentsBreak2, StrayCallsBreak3, BadOldValuesBreak4, ThrowInASegmentBreaks5, SharedLocalsBreak6, WrongTypesBreak7, InnerClosureIsSetUpFirst};
+ghost use Rattle.contract_rows.specs.Rows.{AccountConstructorHasALeadIn, AccountTakeHasTwoClauses, AccountInvariantIsAClause, AccountBreaksNoRule, IfThrowIsLeadIn, EndContractBlockIsNoClause, LabelsCountRequiresTogether, MessageIsAStaticField, EachClauseHasItsOwnLocals, AssertsAreNumberedOverTheBody, ClauseSetsUpItsClosure, ThoseBreakNoRule, CrossedCallsBreak1, BadSegmentsBreak2, StrayCallsBreak3, BadOldValuesBreak4, ThrowInASegmentBreaks5, SharedLocalsBreak6, WrongTypesBreak7, InnerClosureIsSetUpFirst};
 
 /// The account: a base constructor's call, a message, an old value, an invariant.
 #[tactic(auto, using(crate::proofs::RowLaws::account_constructor_has_a_lead_in, crate::proofs::RowLaws::account_take_has_two_clauses, crate::proofs::RowLaws::account_invariant_is_a_clause, crate::proofs::RowLaws::account_breaks_no_rule))]
@@ -11,12 +11,13 @@ pub fn account()
     ensures account_breaks_no_rule { AccountBreaksNoRule }
 {}
 
-/// Blocks of the older form, labels, locals, asserts, closures.
-#[tactic(auto, using(crate::proofs::RowLaws::if_throw_is_lead_in, crate::proofs::RowLaws::end_contract_block_is_no_clause, crate::proofs::RowLaws::labels_count_requires_together, crate::proofs::RowLaws::each_clause_has_its_own_locals, crate::proofs::RowLaws::asserts_are_numbered_over_the_body, crate::proofs::RowLaws::clause_sets_up_its_closure, crate::proofs::RowLaws::inner_closure_is_set_up_first, crate::proofs::RowLaws::those_break_no_rule))]
+/// Blocks of the older form, labels, messages, locals, asserts, closures.
+#[tactic(auto, using(crate::proofs::RowLaws::if_throw_is_lead_in, crate::proofs::RowLaws::end_contract_block_is_no_clause, crate::proofs::RowLaws::labels_count_requires_together, crate::proofs::RowLaws::message_is_a_static_field, crate::proofs::RowLaws::each_clause_has_its_own_locals, crate::proofs::RowLaws::asserts_are_numbered_over_the_body, crate::proofs::RowLaws::clause_sets_up_its_closure, crate::proofs::RowLaws::inner_closure_is_set_up_first, crate::proofs::RowLaws::those_break_no_rule))]
 pub fn own_contracts()
     ensures if_throw_is_lead_in { IfThrowIsLeadIn }
     ensures end_contract_block_is_no_clause { EndContractBlockIsNoClause }
     ensures labels_count_requires_together { LabelsCountRequiresTogether }
+    ensures message_is_a_static_field { MessageIsAStaticField }
     ensures each_clause_has_its_own_locals { EachClauseHasItsOwnLocals }
     ensures asserts_are_numbered_over_the_body { AssertsAreNumberedOverTheBody }
     ensures clause_sets_up_its_closure { ClauseSetsUpItsClosure }
