@@ -28,7 +28,7 @@ code_up_to bs k d h =
     ∙ ap length (code_joined (take k bs) (get_or bs k d ∷ []) ∙ ap (λ l. code (take k bs) ++ l) (append-nil (part (get_or bs k d)).code))
     ∙ length-append (code (take k bs)) (part (get_or bs k d)).code
 
-plain_turned : (is : List Instr) → map (turned None) is ≡ is
+pub plain_turned : (is : List Instr) → map (turned None) is ≡ is
 plain_turned [] = refl
 plain_turned (i ∷ is) = ap (λ l. i ∷ l) (plain_turned is)
 

@@ -2,3 +2,4 @@ pub mod GuardLaws
 pub mod TableLaws
 pub mod CopyLaws
 pub mod DivisionLaws
+pub mod BuildLaws

@@ -1,3 +1,4 @@
 pub mod Alike
+pub mod Between
 pub mod Copies
 pub mod Division

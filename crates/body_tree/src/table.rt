@@ -39,7 +39,7 @@ fn put_block(alloc: Global, block: &Block, at: u32, table: &mut Regions) -> Resu
 }
 
 #[cycle(table)]
-fn put_blocks(
+pub(crate) fn put_blocks(
     alloc: Global,
     blocks: &[Block],
     at: u32,
