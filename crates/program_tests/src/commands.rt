@@ -220,7 +220,7 @@ fn wrong_words_of_rewrite(rt: HostRuntime) -> Result<(), Fail> {
         (&["rewrite", "--out", "-o", "a.dll"], 2, b"words: 2\n"),
         (&["rewrite", "--out", "o", "-a.dll"], 2, b"words: 3\n"),
         (
-            &["rewrite", "--out", "o", "a.dll", "b.dll"],
+            &["rewrite", "--out", "o", "a.dll", "-b.dll"],
             2,
             b"words: 4\n",
         ),
