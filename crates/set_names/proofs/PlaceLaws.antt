@@ -33,7 +33,7 @@ keys_added keys key =
     go true = refl
     go false = map-append (λ (k : Vec ℕ Global). k.items) keys (key ∷ [])
 
-among_place : (names : List Name) (name : Name) (i : ℕ) → is_some (position_from (bytes_eq name) i names) ≡ among name names
+pub among_place : (names : List Name) (name : Name) (i : ℕ) → is_some (position_from (bytes_eq name) i names) ≡ among name names
 among_place [] name i = refl
 among_place (other ∷ others) name i = go (bytes_eq name other) (among_place others name (i + 1))
   where

@@ -1,5 +1,5 @@
 -- The rules on the names of a set and on circles of its types, with their places (ECMA-335, II.10.3, II.22.14, II.22.32, II.22.37; places and limits: own).
-use Rattle.std.specs.Prelude.{ℕ, zero, suc, ◌/◌, ◌%◌, ◌-◌, ◌==◌, ◌&&◌, ◌||◌, bytes_eq, Bool, true, false, is_none, if◌then◌else◌, List, [], ◌∷◌, ◌++◌, map, length, filter, flat_map, reverse, option_to_list, Option, Some, None, option_map, option_and_then, codes}
+use Rattle.std.specs.Prelude.{ℕ, ◌/◌, ◌%◌, ◌-◌, ◌==◌, ◌&&◌, ◌||◌, bytes_eq, Bool, true, false, is_none, if◌then◌else◌, List, [], ◌∷◌, ◌++◌, map, length, filter, flat_map, reverse, option_to_list, Option, Some, None, option_map, option_and_then, slice_get, codes}
 use Rattle.std.specs.List.{range_with_len}
 use Rattle.cil_base.specs.declared.tables.TheConstants.{ASSEMBLY, ASSEMBLY_REF, CUSTOM_ATTRIBUTE, EXPORTED_TYPE, FIELD, INTERFACE_IMPL, TYPE_DEF, TYPE_REF}
 use Rattle.cil_base.specs.declared.rule.Rule.{Rule}
@@ -53,18 +53,13 @@ exported s a e = by_export_path s (assembly_at s a) (path_within (outer_export (
 
 -- ---- circles of types, by their numbers
 
+abbrev pub defined_at : TypeId → Option Cell
+defined_at (id.Row a row) = Some (a, row)
+defined_at (id.Outside name) = None
+
 -- the TypeDef row of a number
 abbrev pub row_of_number : Assemblies → ℕ → Option Cell
-row_of_number s k = option_and_then defined (at (types_of s) k)
-  where
-    defined : TypeId → Option Cell
-    defined (id.Row a row) = Some (a, row)
-    defined (id.Outside name) = None
-
-    at : List TypeId → ℕ → Option TypeId
-    at [] k = None
-    at (t ∷ ts) zero = Some t
-    at (t ∷ ts) (suc k) = at ts k
+row_of_number s k = option_and_then defined_at (slice_get (types_of s) k)
 
 abbrev pub is_on_cycle : Assemblies → (ℕ → List ℕ) → ℕ → Bool
 is_on_cycle s next k = reaches next (length (types_of s)) k k

@@ -41,6 +41,15 @@ impl<'a> Rows<'a> {
         Rows { assembly }
     }
 
+    /// The same rows once more.
+    pub fn same(&self) -> Rows<'a>
+        ensures { result ≡ self.now }
+    {
+        Rows {
+            assembly: self.assembly,
+        }
+    }
+
     /// The number in a cell, 0 where there is no such cell.
     #[tactic(auto, unfolding(crate::specs::Sets::assembly_of))]
     pub fn cell(&self, table: u8, row: u32, column: u8) -> u32
