@@ -43,7 +43,10 @@ pub fn type_of_reference(
     if row == 0 {
         return Ok(None);
     }
-    copied(alloc, coded.refs.get(row as usize - 1))
+    match coded.refs.get(row as usize - 1) {
+        Some(Some(ty)) => Ok(Some(ty.copied(alloc)?)),
+        _ => Ok(None),
+    }
 }
 
 /// The type in a TypeSpec row.

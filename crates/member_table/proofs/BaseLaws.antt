@@ -1,7 +1,7 @@
 -- Members in bases, and the bases of an instance, one after another.
 use Rattle.std.proofs.Common.{◌≡◌, ◌∙◌, sym, ap, arith, refl, subst, ℕ, zero, suc, ◌-◌, ◌*◌, List, [], length, Bool, true, false}
 use Rattle.std.proofs.Math.Nat.{mul-div_cancel, mul-mod_left}
-use Rattle.std.specs.Prelude.{◌==◌, ◌%◌, Option, Some, None, slice_get, is_some, option_and_then, if◌then◌else◌, Result, IfOk}
+use Rattle.std.specs.Prelude.{◌==◌, ◌%◌, Option, Some, None, slice_get, get_or, is_some, option_and_then, if◌then◌else◌, Result, IfOk}
 use Rattle.cil_model.specs.declared.ty.Ty.{Ty, out-Ty}
 use Rattle.cil_semantics.specs.Lookups.{in_set}
 use Rattle.set_signatures.specs.Shapes.{is_same}
@@ -59,7 +59,7 @@ pub definition_is : (c : CodedTypes) (row : ℕ) → (if row == 0 then None else
 definition_is c row = sym (ap (λ (r : ℕ). by_tag r (row * 4 % 4)) (mul-div_cancel row (omega arith)) ∙ ap (by_tag row) (mul-mod_left row 4))
   where
     by_tag : ℕ → ℕ → Option Ty
-    by_tag r t = if r == 0 then None else if t == 0 then slice_get c.defs (r - 1) else if t == 1 then slice_get c.refs (r - 1) else None
+    by_tag r t = if r == 0 then None else if t == 0 then slice_get c.defs (r - 1) else if t == 1 then get_or c.refs.items (r - 1) None else None
 
 pub if_ok_is : {A E : Type 0} (r : Result A E) (x y : A) → x ≡ y → IfOk r (λ v. v ≡ x) → IfOk r (λ v. v ≡ y)
 if_ok_is r x y e h = subst (λ z. IfOk r (λ v. v ≡ z)) e h

@@ -1,5 +1,5 @@
 -- What is asked of the types in a signature: which coded types are said to be value types (ECMA-335, II.23.1.16, II.23.2.12), and whether arguments and parameters fit (II.9.2, II.22.20).
-use Rattle.std.specs.Prelude.{ℕ, zero, suc, ◌==◌, ◌||◌, nat_le, not, Bool, true, false, if◌then◌else◌, List, [], ◌∷◌, ◌++◌, length, flat_map, Option, Some, None}
+use Rattle.std.specs.Prelude.{ℕ, zero, suc, ◌==◌, ◌||◌, nat_le, not, Bool, false, if◌then◌else◌, List, [], ◌∷◌, ◌++◌, length, flat_map, Option, Some, None}
 use Rattle.cli_sigs.specs.declared.types.SigTy.{SigTy, out-SigTy}
 use Rattle.cli_sigs.specs.declared.types.SigTy.TheOpen.{SigTy-F}
 use Rattle.cli_sigs.specs.declared.types.MethodSig.{MethodSig, MethodSig-F, out-MethodSig}
