@@ -56,6 +56,12 @@ impl Outside {
         self.members.len()
     }
 
+    pub fn as_slice(&self) -> &[OutsideMember]
+        ensures { result.now ≡ self.now }
+    {
+        self.members.as_slice()
+    }
+
     /// The place of a member.
     pub fn place(&self, alloc: Global, member: &OutsideMember) -> Result<Option<u32>, AllocError>
         ensures { IfOk result (λ k. k ≡ member_place self.now member.now) }

@@ -2,6 +2,8 @@
 ghost use Rattle.std.specs.Prelude.{◌≡◌, ◌<◌, ◌≤◌, ◌^◌, ◌+◌, ◌-◌, length, get_or, option_map, IfOk, Some};
 ghost use Rattle.set_rows.specs.Sets.{assembly_at, count_in};
 ghost use Rattle.set_program.specs.declared.identity.TypeId.TheVariants.{Row, Outside};
+ghost use Rattle.set_program.specs.Numbering.{outside_names};
+ghost use Rattle.set_program.specs.Attributes.{attribute_outside};
 ghost use Rattle.set_program.specs.Environment.{types_of, number_of};
 ghost use Rattle.type_table.specs.Table.{types_before};
 
@@ -80,6 +82,13 @@ impl<'a> TypeTable<'a> {
         ensures { result ≡ length (types_of self.now) }
     {
         self.all
+    }
+
+    /// The names of the types outside the set, in the order of their numbers.
+    pub fn outside(&self) -> &DistinctNames
+        ensures { result.now ≡ outside_names self.now (attribute_outside self.now) }
+    {
+        &self.names
     }
 
     /// How many types stand before those of an assembly; with the number of assemblies, before
