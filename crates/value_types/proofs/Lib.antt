@@ -1,0 +1,3 @@
+pub mod BlobLaws
+pub mod CodedLaws
+pub mod NameLaws

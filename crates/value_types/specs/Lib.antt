@@ -1,0 +1,2 @@
+pub mod ValueNames
+pub mod CodedValues
