@@ -1,0 +1,8 @@
+use Rattle.std.proofs.Common.{◌≡◌, ◌++◌}
+use Rattle.std.specs.Prelude.{map}
+use Rattle.std.specs.List.{range_with_len}
+use Rattle.coded_tables.specs.CodedAssemblies.{own_number}
+use Rattle.coded_tables.proofs.references.push_def_numbers.Given as goal
+
+abbrev pub invariant-loop-k : goal.invariant-loop-k
+invariant-loop-k l = l.out ≡ l.initial.out ++ map (own_number l.table l.a) (range_with_len 1 l.k)

@@ -1,0 +1,11 @@
+use Rattle.std.proofs.Common.{◌∙◌, ap}
+use Rattle.cil_model.specs.declared.ty.Ty.TheVariants.{Known}
+use Rattle.set_program.specs.Environment.{number_or}
+use Rattle.coded_tables.specs.CodedAssemblies.{own_ty}
+use Rattle.coded_tables.proofs.ListLaws.{row_pushed}
+use Rattle.coded_tables.proofs.references.push_defs.Goals as goal
+
+pub loop-k-preserved : goal.loop-k-preserved
+loop-k-preserved c =
+    row_pushed (own_ty c.args.table.now c.args.a) c.loop-k.k c.args.out.now c.loop-k.out c.push.new.self (Known c.number_or_zero-number.result)
+    c.in_ok-push.ensures.ok (ap Known (c.number_or_zero-number.ensures ∙ ap (number_or 0) c.row_number.ensures)) c.loop-k.invariant

@@ -1,0 +1,3 @@
+pub mod CodedAssemblies
+pub mod RowKinds
+pub mod Counts
