@@ -1,0 +1,2 @@
+pub mod BlobLaws
+pub mod PassLaws

@@ -1,0 +1,2 @@
+pub mod BadBlobs
+pub mod Readings
