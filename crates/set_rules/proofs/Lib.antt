@@ -1,2 +1,3 @@
 pub mod RowTestLaws
 pub mod NameLaws
+pub mod TableLaws
