@@ -1,0 +1,5 @@
+pub mod AnyLaws
+pub mod ListLaws
+pub mod RankLaws
+pub mod StepLaws
+pub mod SearchLaws

@@ -1,0 +1,4 @@
+pub mod Graphs
+pub mod Ranks
+pub mod Levels
+pub mod Searches
