@@ -1,0 +1,5 @@
+pub mod ListLaws
+pub mod RealLaws
+pub mod NumberLaws
+pub mod SetLaws
+pub mod EntangledLaws

@@ -1,0 +1,7 @@
+use Rattle.set_types.specs.CodedTypes.{coded_of}
+use Rattle.type_circles.specs.RowGraphs.{above_row}
+use Rattle.type_circles.proofs.ListLaws.{row_push}
+use Rattle.type_circles.proofs.above.above_rows.Goals as goal
+
+pub loop-k-preserved : goal.loop-k-preserved
+loop-k-preserved c = row_push (above_row c.args.rows.now (coded_of c.args.coded.now)) c.loop-k.k c.loop-k.lists c.push.new.self c.in_ok-above_row.field-0 c.in_ok-push.ensures.ok c.in_ok-above_row.ensures c.loop-k.invariant

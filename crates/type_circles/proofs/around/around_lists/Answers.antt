@@ -1,0 +1,23 @@
+use Rattle.std.proofs.Common.{◌∙◌, ap, subst, sym, List, length, ◌<◌, ◌^◌}
+use Rattle.std.specs.Prelude.{map}
+use Rattle.std.specs.List.{range_with_len}
+use Rattle.set_rows.specs.Sets.{Assemblies, assembly_at}
+use Rattle.members.specs.declared.assembly_members.AssemblyMembers.{AssemblyMembers}
+use Rattle.type_circles.specs.RowGraphs.{around_row, around_in}
+use Rattle.type_circles.proofs.NumberLaws.{lists_are}
+use Rattle.type_circles.proofs.SetLaws.{around_all}
+use Rattle.type_circles.proofs.around.around_lists.Goals as goal
+
+pub all_around-requires : goal.all_around-requires
+all_around-requires c = subst (λ (ms : List AssemblyMembers). length ms < 2 ^ 32) (sym c.as_slice.ensures.value) c.requires.few
+
+pub returns : goal.returns
+returns c =
+    let s : Assemblies = c.args.types.now in
+    c.in_ok-lists.ensures
+    ∙ lists_are s (λ a r. around_row s a (assembly_at s a) r) c.as_slice-3.result.now
+    (c.as_slice-3.ensures.value
+    ∙ c.in_ok-rows.ensures
+    ∙ ap (λ (ms : List AssemblyMembers). map (around_in s ms) (range_with_len 0 (length ms))) c.as_slice.ensures.value
+    ∙ around_all s c.args.table.now.assemblies.items c.args.table.now.types.items c.requires.table)
+    c.as_slice-2.result.now (c.as_slice-2.ensures.value ∙ c.requires.table.bases)
