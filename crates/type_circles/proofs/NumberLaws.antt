@@ -18,7 +18,7 @@ use Rattle.member_table.specs.Environments.{set_type, set_types}
 use Rattle.type_circles.specs.RowGraphs.{row_list}
 use Rattle.type_circles.proofs.RealLaws.{IsReal, type_is_real}
 
-no_rows : count_in no_assembly TYPE_DEF ≡ 0
+pub no_rows : count_in no_assembly TYPE_DEF ≡ 0
 unfolding no_assembly
 no_rows = refl
 

@@ -13,7 +13,7 @@ use Rattle.member_table.specs.Environments.{AreOf, rows_or, coded_or}
 use Rattle.type_circles.proofs.ListLaws.{map_on}
 use Rattle.type_circles.specs.RowGraphs.{above_row, around_row, above_in, around_in}
 
-there : {A : Type 0} (xs : List A) (a : ℕ) → a < length xs → slice_get xs a ≡ None → ⊥
+pub there : {A : Type 0} (xs : List A) (a : ℕ) → a < length xs → slice_get xs a ≡ None → ⊥
 there [] a h e = absurd (omega (arith, h))
 there (x ∷ xs) zero h e = cc
 there (x ∷ xs) (suc a) h e = there xs a (omega (arith, h)) e
@@ -24,7 +24,7 @@ rows_at (m ∷ ms) zero = refl
 rows_at (m ∷ ms) (suc a) = rows_at ms a
 
 module _ (s : Assemblies) (assemblies : List AssemblyMembers) (types : List SetType) (are : AreOf s assemblies types) where
-  rows_are : (a : ℕ) → rows_or (slice_get assemblies a) ≡ assembly_at s a
+  pub rows_are : (a : ℕ) → rows_or (slice_get assemblies a) ≡ assembly_at s a
   rows_are a = rows_at assemblies a ∙ ap (λ (l : List Assembly). get_or l a no_assembly) are.rows
 
   coded_at : (o : Option AssemblyMembers) (a : ℕ) → slice_get assemblies a ≡ o → a < length assemblies → coded_or o ≡ coded_in s a

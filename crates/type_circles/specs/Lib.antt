@@ -1,1 +1,2 @@
 pub mod RowGraphs
+pub mod Structs

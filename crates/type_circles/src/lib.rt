@@ -6,9 +6,12 @@ mod above;
 mod around;
 mod by_number;
 mod entangled;
+mod kinds;
 mod lists;
+mod structs;
 
 pub use above::above_lists;
 pub use around::around_lists;
 pub use entangled::entangled_types;
 pub use lists::Lists;
+pub use structs::{Structs, push_structs};
