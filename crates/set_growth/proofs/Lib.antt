@@ -1,0 +1,4 @@
+pub mod FindLaws
+pub mod GrowthLists
+pub mod KeptNameLaws
+pub mod KeptTypeLaws
