@@ -1,0 +1,11 @@
+pub mod SignatureLaws
+pub mod KeptCodedLaws
+pub mod KeptMemberLaws
+pub mod KeptNumberLaws
+pub mod KeptNamedLaws
+pub mod DescriptionLaws
+pub mod TokenLaws
+pub mod ProgramLaws
+pub mod SignatureNumberLaws
+pub mod ExtendLaws
+pub mod BodyLaws
