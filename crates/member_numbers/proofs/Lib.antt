@@ -1,0 +1,7 @@
+pub mod ArgumentLaws
+pub mod CutLaws
+pub mod TypesLaws
+pub mod PlaceLaws
+pub mod NumberingLaws
+pub mod NotedLaws
+pub mod KeptLaws
