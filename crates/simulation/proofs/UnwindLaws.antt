@@ -38,6 +38,8 @@ use Rattle.splice_facts.specs.Comes.{Comes}
 use Rattle.machine_laws.specs.Answers.{is_below}
 use Rattle.splice_facts.specs.Layout.{Marks, Keeps, IsHere, CanArrive}
 use Rattle.splice_facts.specs.Spliced.{Beside, twin, stands, Arrives, OpensAt, ContinuesAt, Paired, Spliced, Groups, FitsGroup, leaves_with, moved_found, is_guarded, cost}
+use Rattle.splice_facts.specs.Exceptions.{IsObject, FailureThere}
+use Rattle.splice_facts.proofs.ExceptionLaws.{more_object, more_failures, set_failures, new_object, longer, is_exception}
 use Rattle.splice_facts.specs.Input.{is_group, LandsAt}
 use Rattle.splice_facts.specs.Related.{Rewritten, HandlingPair, HandlingPairs, Waits, FramePair, Under, Frames, Related, laid_by, ValidFrame, ValidFrames, count_groups, in_group}
 use Rattle.splice_facts.specs.Related as Pairs
@@ -123,12 +125,13 @@ module _ (p : Program) (k : Contracts) (ms : List MethodDesc) (g : AddedNumbers)
 
   -- ---- statics
 
-  pub set_beside : (t : Ty) (s s' : Statics) (w : World) (ss : List Statics) → s' ≡ s → is_below r.types t ≡ true → is_below r.types s.owner ≡ true → IsBeside w ss → IsBeside (record w { statics = set_statics (same_ty t) s w.statics }) (set_statics (same_ty t) s' ss)
-  set_beside t s s' w ss e a b bes =
+  pub set_beside : (t : Ty) (s s' : Statics) (w : World) (ss : List Statics) → s' ≡ s → is_below r.types t ≡ true → is_below r.types s.owner ≡ true → FailureThere (length w.heap) s.init → IsBeside w ss → IsBeside (record w { statics = set_statics (same_ty t) s w.statics }) (set_statics (same_ty t) s' ss)
+  set_beside t s s' w ss e a b kept bes =
       record {
         statics = ap (λ z. input r.types (set_statics (same_ty t) z ss)) e ∙ set_input r.types t s ss a b ∙ ap (set_statics (same_ty t) s) bes.statics ∙ sym (set_input r.types t s w.statics a b);
         depth = subst (Rattle.splice_facts.specs.Layout.HasDepth w.depth) (sym (find_other r.types r.depths.owner r.depths.appended t s' ss a (ap (λ (z : Statics). is_below r.types z.owner) e ∙ b))) bes.depth;
         bare = find_other r.types g.exception r.depths.exception t s' ss a (ap (λ (z : Statics). is_below r.types z.owner) e ∙ b) ∙ bes.bare;
+        failures = set_failures (length w.heap) (same_ty t) s w.statics kept bes.failures;
       }
 
   pub find_beside : (t : Ty) (w : World) (ss : List Statics) → is_below r.types t ≡ true → IsBeside w ss → find_statics t ss ≡ find_statics t w.statics
@@ -141,28 +144,34 @@ module _ (p : Program) (k : Contracts) (ms : List MethodDesc) (g : AddedNumbers)
   failed_owner t y None h a = a
   failed_owner t y (Some s) h a = same_below r.types s.owner t (h s refl) ∙ a
 
-  failed_beside : (t : Ty) (y : ℕ) (w : World) (ss : List Statics) → is_below r.types t ≡ true → IsBeside w ss → IsBeside (with_failed t y w) (set_statics (same_ty t) (failed_of t y (find_statics t ss)) ss)
-  failed_beside t y w ss a bes =
-      set_beside t (failed_of t y (find_statics t w.statics)) (failed_of t y (find_statics t ss)) w ss (ap (failed_of t y) (find_beside t w ss a bes)) a (failed_owner t y (find_statics t w.statics) (found_owner t w.statics) a) bes
+  failed_kept : (t : Ty) (n y : ℕ) (o : Option Statics) → IsObject n y → FailureThere n (failed_of t y o).init
+  failed_kept t n y None there = there
+  failed_kept t n y (Some s) there = there
+
+  failed_beside : (t : Ty) (y : ℕ) (w : World) (ss : List Statics) → is_below r.types t ≡ true → IsObject (length w.heap) y → IsBeside w ss → IsBeside (with_failed t y w) (set_statics (same_ty t) (failed_of t y (find_statics t ss)) ss)
+  failed_beside t y w ss a there bes =
+      set_beside t (failed_of t y (find_statics t w.statics)) (failed_of t y (find_statics t ss)) w ss (ap (failed_of t y) (find_beside t w ss a bes)) a (failed_owner t y (find_statics t w.statics) (found_owner t w.statics) a) (failed_kept t (length w.heap) y (find_statics t w.statics) there) bes
 
   -- ---- down the frames
 
   -- an exception goes down from here in both runs
   abbrev pub Goes_down : Continuation → Continuation → List Frame → List Frame → Type 0
   Goes_down b b' fs fs' =
-      (w : World) (ss : List Statics) (x : ℕ) → IsBeside w ss → w.depth ≡ count_groups fs → w.depth ≤ suc k.settings.guard → To (2 * cst + lay (length fs)) (unwind p k (hasnt_begun b) fs w x) (unwind p' no_contracts (hasnt_begun b') fs' (beside ss w) x)
+      (w : World) (ss : List Statics) (x : ℕ) → IsBeside w ss → IsObject (length w.heap) x → w.depth ≡ count_groups fs → w.depth ≤ suc k.settings.guard → To (2 * cst + lay (length fs)) (unwind p k (hasnt_begun b) fs w x) (unwind p' no_contracts (hasnt_begun b') fs' (beside ss w) x)
 
   -- the frame ends with it, and an initializer's exception is kept
-  pub ends_so : (h : Frame) (b : Continuation) (fs fs' : List Frame) (w : World) (ss : List Statics) (x : ℕ) → Goes_down h.continuation b fs fs' → ((t : Ty) → h.initializes ≡ Some t → IsTrue (is_below r.types t)) → IsBeside w ss → w.depth ≡ count_groups fs → w.depth ≤ suc k.settings.guard
+  pub ends_so : (h : Frame) (b : Continuation) (fs fs' : List Frame) (w : World) (ss : List Statics) (x : ℕ) → Goes_down h.continuation b fs fs' → ((t : Ty) → h.initializes ≡ Some t → IsTrue (is_below r.types t)) → IsBeside w ss → IsObject (length w.heap) x → w.depth ≡ count_groups fs → w.depth ≤ suc k.settings.guard
       → To (2 * cst + lay (length fs)) (ends_frame p h.initializes h.continuation w x (λ s v y. unwind p k s fs v y)) (out_of h b fs' w ss x)
   unfolding storage
-  ends_so h b fs fs' w ss x down own bes count deep = by_type h.initializes own
+  ends_so h b fs fs' w ss x down own bes there count deep = by_type h.initializes own
     where
       by_type : (o : Option Ty) → ((t : Ty) → o ≡ Some t → IsTrue (is_below r.types t)) → To (2 * cst + lay (length fs)) (ends_frame p o h.continuation w x (λ s v y. unwind p k s fs v y)) (ends_frame p' o b (beside ss w) x (λ s v y. unwind p' no_contracts s fs' v y))
-      by_type None h1 = down w ss x bes count deep
+      by_type None h1 = down w ss x bes there count deep
       by_type (Some t) h1 =
           down (with_failed t (next_object w) (with_object p initialization_failed w)) (set_statics (same_ty t) (failed_of t (next_object w) (find_statics t ss)) ss) (next_object w)
-          (failed_beside t (next_object w) (with_object p initialization_failed w) ss (h1 t refl) (record { statics = bes.statics; depth = bes.depth; bare = bes.bare })) count deep
+          (failed_beside t (next_object w) (with_object p initialization_failed w) ss (h1 t refl) (new_object w.heap initialization_failed)
+          (record { statics = bes.statics; depth = bes.depth; bare = bes.bare; failures = more_failures (length w.heap) (length (with_object p initialization_failed w).heap) w.statics (longer w.heap initialization_failed) bes.failures }))
+          (new_object w.heap initialization_failed) count deep
 
   -- what fits is the same in both programs
   fits_same : (h : Frame) (w : World) (ss : List Statics) (x : ℕ) (l : Local) (ex : List Cell) (q : ℕ) (hs : List Handling) (b : Continuation) (token : Token) → fits_type p' (beside ss w) x (caught_type p' (tw h l ex q hs b) token) ≡ fits_type p w x (caught_type p h token)
@@ -193,9 +202,9 @@ module _ (p : Program) (k : Contracts) (ms : List MethodDesc) (g : AddedNumbers)
   lows m at (h ∷ hs) (h' ∷ hs') x = (subst (λ j. j < rows m) (sym (x.0).handler) (x.0).low, lows m at hs hs' x.1)
 
   -- the group of EnsuresOnThrow begins, or the exception goes on
-  throw_group : (c : Plan) (h : Frame) (l : Local) (ex : List Cell) (b : Continuation) (fs fs' : List Frame) (w : World) (ss : List Statics) (x : ℕ) → l.stack ≡ [] → Rattle.splice_facts.specs.Spliced.has_any p k p' g r.types r.depths (pieces c group.Throw) ≡ true → plan h.method ≡ Some c → h.method < r.methods → Keeps (mk h.method) (here_of h fs) (Some x) l ex → IsBeside w ss → length fs' ≡ length fs → w.depth ≤ suc k.settings.guard → w.depth ≡ count_groups fs → below h.continuation b fs fs' → Goes_down h.continuation b fs fs' → ((t : Ty) → h.initializes ≡ Some t → IsTrue (is_below r.types t))
+  throw_group : (c : Plan) (h : Frame) (l : Local) (ex : List Cell) (b : Continuation) (fs fs' : List Frame) (w : World) (ss : List Statics) (x : ℕ) → l.stack ≡ [] → Rattle.splice_facts.specs.Spliced.has_any p k p' g r.types r.depths (pieces c group.Throw) ≡ true → plan h.method ≡ Some c → h.method < r.methods → Keeps (mk h.method) (here_of h fs) (Some x) l ex → IsBeside w ss → IsObject (length w.heap) x → length fs' ≡ length fs → w.depth ≤ suc k.settings.guard → w.depth ≡ count_groups fs → below h.continuation b fs fs' → Goes_down h.continuation b fs fs' → ((t : Ty) → h.initializes ≡ Some t → IsTrue (is_below r.types t))
       → To (cst + lay (suc (length fs))) (begin_group p c group.Throw (with_local l (record h { thrown = Some x })) fs w (ends_frame p h.initializes h.continuation w x (λ s v y. unwind p k s fs v y))) (stands p k p' g r.types r.depths h l ex ((mk h.method).door group.Throw) b fs' w ss)
-  throw_group c h l ex b fs fs' w ss x empty kept e old keeps bes numbers deep count under down own =
+  throw_group c h l ex b fs fs' w ss x empty kept e old keeps bes there numbers deep count under down own =
       let h1 : Frame = record h { thrown = Some x } in
       let over = ends_frame p h.initializes h.continuation w x (λ s v y. unwind p k s fs v y) in
       let door = stands p k p' g r.types r.depths h l ex ((mk h.method).door group.Throw) b fs' w ss in
@@ -206,7 +215,7 @@ module _ (p : Program) (k : Contracts) (ms : List MethodDesc) (g : AddedNumbers)
       let t = (groups_of p k ms g r h.method c e old).throws h2 fs fs' w a.extra a.statics b x refl refl kept scene in
       reaches_within p' (Arriving.E p k ms g r) (Arriving.R p k ms g r) (Arriving.f p k ms g r) (cst + (cst + (2 * cst + lay (length fs)))) _ over door (omega arith)
       (reaches_by p' (Arriving.E p k ms g r) (Arriving.R p k ms g r) (Arriving.f p k ms g r) cst (cst + (2 * cst + lay (length fs))) over door _ a.comes
-      (reaches_by p' (Arriving.E p k ms g r) (Arriving.R p k ms g r) (Arriving.f p k ms g r) cst (2 * cst + lay (length fs)) over _ _ t (ends_so h b fs fs' w a.statics x down own a.beside count deep))))
+      (reaches_by p' (Arriving.E p k ms g r) (Arriving.R p k ms g r) (Arriving.f p k ms g r) cst (2 * cst + lay (length fs)) over _ _ t (ends_so h b fs fs' w a.statics x down own a.beside there count deep))))
 
   abbrev pub reach_by : (m n : ℕ) (x y z : Next) → Comes p' m y z → To n x z → To (m + n) x y
   reach_by m n x y z c h = reaches_by p' (Arriving.E p k ms g r) (Arriving.R p k ms g r) (Arriving.f p k ms g r) m n x y z c h
@@ -218,9 +227,10 @@ module _ (p : Program) (k : Contracts) (ms : List MethodDesc) (g : AddedNumbers)
   reach_now n x y le h = reaches_at_once p' (Arriving.E p k ms g r) (Arriving.R p k ms g r) (Arriving.f p k ms g r) n x y le h
 
   -- what is known of a frame that stands outside of groups, and of its twin
-  pub record Outside (h : Frame) (at : ProgramPoint) (l : Local) (ex : List Cell) (hs hs' : List Handling) (q q' : ℕ) (b : Continuation) (fs fs' : List Frame) (w : World) (ss : List Statics) : Type 0 where
+  pub record Outside (h : Frame) (at : ProgramPoint) (l : Local) (ex : List Cell) (hs hs' : List Handling) (q q' : ℕ) (b : Continuation) (fs fs' : List Frame) (w : World) (ss : List Statics) (x : ℕ) : Type 0 where
     pub old : h.method < r.methods
     pub here : IsHere (plan h.method) at
+    pub thrown_there : IsObject (length w.heap) x
     pub thrower : IsHere (plan h.method) (moved_to q at)
     pub belongs : IsTrue ((mk h.method).belongs (moved_to q at) q')
     pub keeps : Keeps (mk h.method) (here_of h fs) h.thrown l ex
@@ -233,7 +243,7 @@ module _ (p : Program) (k : Contracts) (ms : List MethodDesc) (g : AddedNumbers)
     pub down : Goes_down h.continuation b fs fs'
     pub own : (t : Ty) → h.initializes ≡ Some t → IsTrue (is_below r.types t)
 
-  lands_lead : (o : Found) (h : Frame) (a : ℕ) (hs hs' hs0 : List Handling) (q q' skip q0 : ℕ) (ex : List Cell) (b : Continuation) (fs fs' : List Frame) (w : World) (ss : List Statics) (x : ℕ) → Outside h (LeadIn a) h.local ex hs hs' q q' b fs fs' w ss
+  lands_lead : (o : Found) (h : Frame) (a : ℕ) (hs hs' hs0 : List Handling) (q q' skip q0 : ℕ) (ex : List Cell) (b : Continuation) (fs fs' : List Frame) (w : World) (ss : List Statics) (x : ℕ) → Outside h (LeadIn a) h.local ex hs hs' q q' b fs fs' w ss x
       → LandsAt (plan h.method) (LeadIn a) (rows h.method) o → (o ≡ NoHandler → ⊥)
       → To (lay (suc (length fs))) (land p k o (record h { at = LeadIn a }) hs q fs w x (λ s v y. unwind p k s fs v y)) (land p' no_contracts (moved_found p k p' g r.types r.depths (λ t. (mk h.method).places (moved_to t (LeadIn a))) o) (tw h h.local ex q0 hs0 b) hs' q' fs' (beside ss w) x (λ s v y. unwind p' no_contracts s fs' v y))
   lands_lead NoHandler h a hs hs' hs0 q q' skip q0 ex b fs fs' w ss x z lands found = absurd (found refl)
@@ -248,7 +258,7 @@ module _ (p : Program) (k : Contracts) (ms : List MethodDesc) (g : AddedNumbers)
       goes_here p k ms g r (record h { at = LeadIn a }) (LeadIn t) (with_stack h.local []) h.local (new ∷ hs) (new' ∷ hs') hs0 q0 ex b fs fs' w ss z.old lands.0 (record { typed = z.keeps.typed; result = z.keeps.result; thrown = z.keeps.thrown; wide = z.keeps.wide; caps = z.keeps.caps })
       (record { handler = refl; next = refl; cause = refl; here = z.thrower; belongs = z.belongs; leads = tt; low = lands.1 }, moved_pairs (plan h.method) (mk h.method) (rows h.method) (LeadIn a) t hs hs' tt z.pairs) z.under z.alike
 
-  lands_rest : (o : Found) (h : Frame) (a : ℕ) (hs hs' hs0 : List Handling) (q q' skip q0 : ℕ) (ex : List Cell) (b : Continuation) (fs fs' : List Frame) (w : World) (ss : List Statics) (x : ℕ) → Outside h (Rest a) h.local ex hs hs' q q' b fs fs' w ss
+  lands_rest : (o : Found) (h : Frame) (a : ℕ) (hs hs' hs0 : List Handling) (q q' skip q0 : ℕ) (ex : List Cell) (b : Continuation) (fs fs' : List Frame) (w : World) (ss : List Statics) (x : ℕ) → Outside h (Rest a) h.local ex hs hs' q q' b fs fs' w ss x
       → LandsAt (plan h.method) (Rest a) (rows h.method) o → (o ≡ NoHandler → ⊥)
       → To (lay (suc (length fs))) (land p k o (record h { at = Rest a }) hs q fs w x (λ s v y. unwind p k s fs v y)) (land p' no_contracts (moved_found p k p' g r.types r.depths (λ t. (mk h.method).places (moved_to t (Rest a))) o) (tw h h.local ex q0 hs0 b) hs' q' fs' (beside ss w) x (λ s v y. unwind p' no_contracts s fs' v y))
   lands_rest NoHandler h a hs hs' hs0 q q' skip q0 ex b fs fs' w ss x z lands found = absurd (found refl)
@@ -285,7 +295,7 @@ module _ (p : Program) (k : Contracts) (ms : List MethodDesc) (g : AddedNumbers)
       ap (λ z. land p' no_contracts z (tw h l ex q0 hs0 b) hs' q' fs' (beside ss w) x (λ s v y. unwind p' no_contracts s fs' v y)) (searched_so h l ex q0 hs0 b w ss x skip q' q0 ∙ e)
 
   -- the lead-in
-  pub throws_lead : (h : Frame) (a : ℕ) (hs hs' hs0 : List Handling) (q q' skip q0 : ℕ) (ex : List Cell) (b : Continuation) (fs fs' : List Frame) (w : World) (ss : List Statics) (x : ℕ) → Outside h (LeadIn a) h.local ex hs hs' q q' b fs fs' w ss
+  pub throws_lead : (h : Frame) (a : ℕ) (hs hs' hs0 : List Handling) (q q' skip q0 : ℕ) (ex : List Cell) (b : Continuation) (fs fs' : List Frame) (w : World) (ss : List Statics) (x : ℕ) → Outside h (LeadIn a) h.local ex hs hs' q q' b fs fs' w ss x
       → To (2 * cst + lay (suc (length fs))) (throws_in p k (record h { at = LeadIn a }) hs skip q fs w x (λ s v y. unwind p k s fs v y)) (new_throws h h.local ex q0 hs0 b hs' skip q' fs' w ss x)
   throws_lead h a hs hs' hs0 q q' skip q0 ex b fs fs' w ss x z = by_found (old_search h w x skip q) refl
     where
@@ -316,10 +326,10 @@ module _ (p : Program) (k : Contracts) (ms : List MethodDesc) (g : AddedNumbers)
           let nothing = (spliced h.method z.old).unguarded (LeadIn a) q skip q' (λ token. fits_type p w x (caught_type p h token)) z.here refl (unguarded (plan h.method)) z.thrower z.belongs e in
           subst (λ y. To (2 * cst + lay (suc (length fs))) y (new_throws h h.local ex q0 hs0 b hs' skip q' fs' w ss x)) (sym (given_up (plan h.method)))
           (subst (λ y. To (2 * cst + lay (suc (length fs))) (ends_frame p h.initializes h.continuation w x (λ s v y1. unwind p k s fs v y1)) y) (sym (new_lands h h.local ex q0 hs0 b hs' skip q' fs' w ss x NoHandler nothing ∙ nowhere_plain h h.local ex q0 hs0 hs' q' b fs' w ss x))
-          (reach_within (2 * cst + lay (length fs)) _ _ _ (omega arith) (ends_so h b fs fs' w ss x z.down z.own z.alike z.count z.deep)))
+          (reach_within (2 * cst + lay (length fs)) _ _ _ (omega arith) (ends_so h b fs fs' w ss x z.down z.own z.alike z.thrown_there z.count z.deep)))
 
   -- the rest
-  pub throws_rest : (h : Frame) (a : ℕ) (hs hs' hs0 : List Handling) (q q' skip q0 : ℕ) (ex : List Cell) (b : Continuation) (fs fs' : List Frame) (w : World) (ss : List Statics) (x : ℕ) → h.thrown ≡ None → Outside h (Rest a) h.local ex hs hs' q q' b fs fs' w ss
+  pub throws_rest : (h : Frame) (a : ℕ) (hs hs' hs0 : List Handling) (q q' skip q0 : ℕ) (ex : List Cell) (b : Continuation) (fs fs' : List Frame) (w : World) (ss : List Statics) (x : ℕ) → h.thrown ≡ None → Outside h (Rest a) h.local ex hs hs' q q' b fs fs' w ss x
       → To (2 * cst + lay (suc (length fs))) (throws_in p k (record h { at = Rest a }) hs skip q fs w x (λ s v y. unwind p k s fs v y)) (new_throws h h.local ex q0 hs0 b hs' skip q' fs' w ss x)
   throws_rest h a hs hs' hs0 q q' skip q0 ex b fs fs' w ss x bare z = by_found (old_search h w x skip q) refl
     where
@@ -343,7 +353,7 @@ module _ (p : Program) (k : Contracts) (ms : List MethodDesc) (g : AddedNumbers)
       plainly u e =
           let nothing = (spliced h.method z.old).unguarded (Rest a) q skip q' (λ token. fits_type p w x (caught_type p h token)) z.here refl u z.thrower z.belongs e in
           subst (λ y. To (2 * cst + lay (suc (length fs))) ended y) (sym (new_lands h h.local ex q0 hs0 b hs' skip q' fs' w ss x NoHandler nothing ∙ nowhere_plain h h.local ex q0 hs0 hs' q' b fs' w ss x))
-          (reach_within (2 * cst + lay (length fs)) _ _ _ (omega arith) (ends_so h b fs fs' w ss x z.down z.own z.alike z.count z.deep))
+          (reach_within (2 * cst + lay (length fs)) _ _ _ (omega arith) (ends_so h b fs fs' w ss x z.down z.own z.alike z.thrown_there z.count z.deep))
 
       scene : Paired p k p' g r.types r.depths (mk h.method) (record h { at = Rest a }) fs fs' w ex ss
       scene = record { keeps = z.keeps; beside = z.alike; numbers = z.numbers; deep = z.deep }
@@ -351,7 +361,7 @@ module _ (p : Program) (k : Contracts) (ms : List MethodDesc) (g : AddedNumbers)
       guarded : (c : Plan) → plan h.method ≡ Some c → is_guarded p k p' g r.types r.depths (plan h.method) (Rest a) ≡ true → old_search h w x skip q ≡ NoHandler
           → To (2 * cst + lay (suc (length fs))) (begin_group p c group.Throw (record h { at = Rest a; thrown = Some x }) fs w ended) (new_throws h h.local ex q0 hs0 b hs' skip q' fs' w ss x)
       guarded c e u s =
-          let a1 = (spliced h.method z.old).wrapper (record h { at = Rest a }) fs fs' w ex ss b q skip q' q0 x hs0 hs' refl scene (lows h.method (Rest a) hs hs' z.pairs) z.here u z.thrower z.belongs s in
+          let a1 = (spliced h.method z.old).wrapper (record h { at = Rest a }) fs fs' w ex ss b q skip q' q0 x hs0 hs' refl scene (lows h.method (Rest a) hs hs' z.pairs) z.here u z.thrower z.belongs s (is_exception p w x r.rooted z.thrown_there) in
           let t = throw_group c h (with_stack h.local []) a1.extra b fs fs' w a1.statics x refl (subst (λ o. is_guarded p k p' g r.types r.depths o (Rest a) ≡ true) e u) e z.old a1.keeps a1.beside z.numbers z.deep z.count z.under z.down z.own in
           reach_within (cst + (cst + lay (suc (length fs)))) _ _ _ (omega arith)
           (reach_by cst (cst + lay (suc (length fs))) _ _ _ a1.comes
@@ -400,9 +410,10 @@ module _ (p : Program) (k : Contracts) (ms : List MethodDesc) (g : AddedNumbers)
       (arrives_here p k ms g r cst from h (InGroup gr x.0 x.1.from) (with_stack l []) b fs fs' w old (Arriving.piece_here p k ms g r c h gr x e old (there x refl)) a under)
 
   -- what is known of the topmost frame of some, and of its twin
-  pub record Known_top (h : Frame) (at : ProgramPoint) (ex : List Cell) (hs' : List Handling) (q' : ℕ) (b : Continuation) (fs fs' : List Frame) (w : World) (ss : List Statics) : Type 0 where
+  pub record Known_top (h : Frame) (at : ProgramPoint) (ex : List Cell) (hs' : List Handling) (q' : ℕ) (b : Continuation) (fs fs' : List Frame) (w : World) (ss : List Statics) (x : ℕ) : Type 0 where
     pub old : h.method < r.methods
     pub here : IsHere (plan h.method) at
+    pub thrown_there : IsObject (length w.heap) x
     pub belongs : IsTrue ((mk h.method).belongs at q')
     pub keeps : Keeps (mk h.method) (here_of h fs) h.thrown h.local ex
     pub fits : Pairs.FitsAt Fits at h.thrown
@@ -420,7 +431,7 @@ module _ (p : Program) (k : Contracts) (ms : List MethodDesc) (g : AddedNumbers)
   none_thrown (Some x) f1 = absurd f1
 
   -- a piece of a group
-  unwinds_piece : (c : Plan) (h : Frame) (gr : Group) (j q : ℕ) (ex : List Cell) (q' : ℕ) (b : Continuation) (fs fs' : List Frame) (w : World) (ss : List Statics) (x : ℕ) → plan h.method ≡ Some c → Known_top h (InGroup gr j q) ex [] q' b fs fs' w ss
+  unwinds_piece : (c : Plan) (h : Frame) (gr : Group) (j q : ℕ) (ex : List Cell) (q' : ℕ) (b : Continuation) (fs fs' : List Frame) (w : World) (ss : List Statics) (x : ℕ) → plan h.method ≡ Some c → Known_top h (InGroup gr j q) ex [] q' b fs fs' w ss x
       → To (2 * cst + lay (suc (length fs))) (no_handler_left p (Some c) (record h { at = InGroup gr j q }) (InGroup gr j q) fs w x (λ s v y. unwind p k s fs v y)) (unwind p' no_contracts false (tw h h.local ex q' [] b ∷ fs') (beside ss w) x)
   unwinds_piece c h gr j q ex q' b fs fs' w ss x e z = by_drop (drops (piece_at (Some c) gr j)) refl
     where
@@ -450,18 +461,18 @@ module _ (p : Program) (k : Contracts) (ms : List MethodDesc) (g : AddedNumbers)
           let count : w.depth - 1 ≡ count_groups fs = omega (arith, z.count) in
           let deep : w.depth - 1 ≤ suc k.settings.guard = omega (arith, z.deep) in
           reach_within (cst + (2 * cst + lay (length fs))) _ _ _ (omega arith)
-          (reach_by cst (2 * cst + lay (length fs)) _ _ _ a.2 (ends_so h b fs fs' (lowered w) a.0 x z.down z.own a.1 count deep))
+          (reach_by cst (2 * cst + lay (length fs)) _ _ _ a.2 (ends_so h b fs fs' (lowered w) a.0 x z.down z.own a.1 z.thrown_there count deep))
 
   -- the topmost frame of some
-  pub unwinds_at : (h : Frame) (at : ProgramPoint) (ex : List Cell) (hs' : List Handling) (q' : ℕ) (b : Continuation) (fs fs' : List Frame) (w : World) (ss : List Statics) (x : ℕ) → Known_top h at ex hs' q' b fs fs' w ss
+  pub unwinds_at : (h : Frame) (at : ProgramPoint) (ex : List Cell) (hs' : List Handling) (q' : ℕ) (b : Continuation) (fs fs' : List Frame) (w : World) (ss : List Statics) (x : ℕ) → Known_top h at ex hs' q' b fs fs' w ss x
       → To (2 * cst + lay (suc (length fs))) (unwind p k false (record h { at = at } ∷ fs) w x) (unwind p' no_contracts false (tw h h.local ex q' hs' b ∷ fs') (beside ss w) x)
   unfolding unwind
   unwinds_at h (LeadIn a) ex hs' q' b fs fs' w ss x z =
       throws_lead h a h.handling hs' hs' a q' 0 q' ex b fs fs' w ss x
-      (record { old = z.old; here = z.here; thrower = z.here; belongs = z.belongs; keeps = z.keeps; pairs = z.waits; under = z.under; alike = z.alike; numbers = z.numbers; deep = z.deep; count = omega (arith, z.count); down = z.down; own = z.own })
+      (record { old = z.old; here = z.here; thrown_there = z.thrown_there; thrower = z.here; belongs = z.belongs; keeps = z.keeps; pairs = z.waits; under = z.under; alike = z.alike; numbers = z.numbers; deep = z.deep; count = omega (arith, z.count); down = z.down; own = z.own })
   unwinds_at h (Rest a) ex hs' q' b fs fs' w ss x z =
       throws_rest h a h.handling hs' hs' a q' 0 q' ex b fs fs' w ss x (none_thrown h.thrown z.fits)
-      (record { old = z.old; here = z.here; thrower = z.here; belongs = z.belongs; keeps = z.keeps; pairs = z.waits; under = z.under; alike = z.alike; numbers = z.numbers; deep = z.deep; count = omega (arith, z.count); down = z.down; own = z.own })
+      (record { old = z.old; here = z.here; thrown_there = z.thrown_there; thrower = z.here; belongs = z.belongs; keeps = z.keeps; pairs = z.waits; under = z.under; alike = z.alike; numbers = z.numbers; deep = z.deep; count = omega (arith, z.count); down = z.down; own = z.own })
   unwinds_at h (InGroup gr j q) ex hs' q' b fs fs' w ss x z = by_plan (plan h.method) refl
     where
       by_plan : (o : Option Plan) → plan h.method ≡ o → To (2 * cst + lay (suc (length fs))) (no_handler_left p o (record h { at = InGroup gr j q }) (InGroup gr j q) fs w x (λ s v y. unwind p k s fs v y)) (unwind p' no_contracts false (tw h h.local ex q' hs' b ∷ fs') (beside ss w) x)
@@ -469,7 +480,7 @@ module _ (p : Program) (k : Contracts) (ms : List MethodDesc) (g : AddedNumbers)
       by_plan (Some c) e =
           subst (λ hs. To (2 * cst + lay (suc (length fs))) (no_handler_left p (Some c) (record h { at = InGroup gr j q }) (InGroup gr j q) fs w x (λ s v y. unwind p k s fs v y)) (unwind p' no_contracts false (tw h h.local ex q' hs b ∷ fs') (beside ss w) x)) (sym (z.waits).1)
           (unwinds_piece c h gr j q ex q' b fs fs' w ss x e
-          (record { old = z.old; here = z.here; belongs = z.belongs; keeps = z.keeps; fits = z.fits; waits = ((z.waits).0, refl); under = z.under; alike = z.alike; numbers = z.numbers; deep = z.deep; count = z.count; down = z.down; own = z.own }))
+          (record { old = z.old; here = z.here; thrown_there = z.thrown_there; belongs = z.belongs; keeps = z.keeps; fits = z.fits; waits = ((z.waits).0, refl); under = z.under; alike = z.alike; numbers = z.numbers; deep = z.deep; count = z.count; down = z.down; own = z.own }))
 
   -- ---- all frames
 

@@ -4,3 +4,4 @@ pub mod Small
 pub mod AskFrameLaws
 pub mod StoreLaws
 pub mod ThrowLaws
+pub mod ExceptionLaws

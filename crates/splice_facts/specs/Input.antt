@@ -22,7 +22,7 @@ use Rattle.cil_semantics.specs.Tokens.{Here, local_tys}
 use Rattle.cil_semantics.specs.Contracted.{Piece, Plan}
 use Rattle.cil_semantics.specs.Unwind.{body_of, piece_at, moved_to, next_place, Found, NoHandler, CatchHandler, CleanupHandler, search_from, left_from}
 use Rattle.cil_semantics.specs.Frames.{clause_tys, first_place}
-use Rattle.cil_semantics.specs.Returns.{returned}
+use Rattle.cil_semantics.specs.Returns.{result_type, returned}
 use Rattle.cil_semantics.specs.ContractCalls.{contract_call, has_message}
 use Rattle.cil_semantics.specs.declared.contract_call.ContractCall.{ContractCall}
 use Rattle.cil_semantics.specs.declared.contract_call.ContractCall.TheVariants.{GivesResult, ReadsArgument, ChecksHere}
@@ -101,6 +101,10 @@ module _ (p : Program) (k : Contracts) (g : AddedNumbers) where
 abbrev pub result_count : Program → ℕ → ℕ
 result_count p m = if is_void (storage p (method_of p m).result) then 0 else 1
 
+-- With its type arguments a frame's method returns a value just where it does without: no type argument is void (ECMA-335, II.23.2.14).
+abbrev pub ReturnsAsNamed : Program → Frame → Type 0
+ReturnsAsNamed p f = is_void (storage p (result_type p f)) ≡ is_void (storage p (method_of p f.method).result)
+
 abbrev pub access_count : Access → ℕ
 access_count (Write q v) = 0
 access_count _ = 1
@@ -136,4 +140,4 @@ pub record StackHeights (p : Program) (k : Contracts) (g : AddedNumbers) (me : �
   pub keeps : (at : ProgramPoint) (i : Instr) (here : Here) (w : World) (l : LocalState) → here.method ≡ me → IsHere (Some plan) at → is_group at ≡ false → fetch p k g (Some plan) me at ≡ Some i → length l.stack ≡ height at → LeavesHeight p height at (act p here i w l)
   pub checks : (at : ProgramPoint) (i : Instr) (kd : ClauseKind) (s rest : List Value) → IsHere (Some plan) at → is_group at ≡ false → fetch p k g (Some plan) me at ≡ Some i → contract_call p i ≡ ChecksHere kd → length s ≡ height at → dropped (has_message p i) s ≡ Some rest → length rest ≡ height (next_place at)
   pub handlers : (at : ProgramPoint) (r : Region) → Contains (body_of p me).regions r → is_group at ≡ false → IsHere (Some plan) (moved_to r.handler_from at) → height (moved_to r.handler_from at) ≡ handler_height r.kind
-  pub returns : (f : Frame) (i : Instr) (v : Option Value) → f.method ≡ me → IsHere (Some plan) f.at → is_group f.at ≡ false → fetch p k g (Some plan) me f.at ≡ Some i → class_of i.op ≡ class.Return → returned p f f.local.stack ≡ Some v → height f.at ≡ length (top_of v)
+  pub returns : (f : Frame) (i : Instr) (v : Option Value) → f.method ≡ me → ReturnsAsNamed p f → IsHere (Some plan) f.at → is_group f.at ≡ false → fetch p k g (Some plan) me f.at ≡ Some i → class_of i.op ≡ class.Return → returned p f f.local.stack ≡ Some v → height f.at ≡ length (top_of v)

@@ -7,3 +7,4 @@ pub mod Input
 pub mod Spliced
 pub mod Acting
 pub mod Related
+pub mod Exceptions

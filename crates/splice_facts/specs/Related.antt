@@ -23,7 +23,8 @@ use Rattle.cil_semantics.specs.declared.state.Continuation.{Continuation}
 use Rattle.cil_semantics.specs.declared.state.Continuation.TheVariants.{Push, PushObject, PushStruct, ThrowObject, BeginCallee, UseField, TryNext}
 use Rattle.cil_semantics.specs.Contracted.{Piece, Plan, effective_of}
 use Rattle.cil_semantics.specs.Unwind.{body_of, plan_at, piece_at, here_of, moved_to, next_place, unwind}
-use Rattle.cil_semantics.specs.Lookups.{method_of, in_set}
+use Rattle.cil_semantics.specs.Core.{object_ty}
+use Rattle.cil_semantics.specs.Lookups.{method_of, in_set, is_sub}
 use Rattle.cil_semantics.specs.Places.{storage, is_reference}
 use Rattle.cil_semantics.specs.Dispatch.{Seen, methods_of}
 use Rattle.cil_semantics.specs.Calls.{body_seen}
@@ -45,6 +46,7 @@ use Rattle.splice_facts.specs.Grown.{beside}
 use Rattle.machine_laws.specs.Answers.{Each, is_below}
 use Rattle.splice_facts.specs.WellFormed.{Bounds, WellFormedLocal, WellFormedWorld, WellFormedContinuation}
 use Rattle.splice_facts.specs.Comes.{Reaches}
+use Rattle.splice_facts.specs.Exceptions.{IsObject, ThrowsObject}
 use Rattle.splice_facts.specs.Input.{InputFacts, StackHeights, result_count, access_count, is_group}
 use Rattle.splice_facts.specs.Layout.{Depths, Marks, Keeps, IsHere, CanArrive, Onward, fetch}
 use Rattle.splice_facts.specs.Spliced.{Current, Throws_next, Checked, Beside, twin, FitsGroup, Spliced, cost, IsPlainAt}
@@ -71,6 +73,8 @@ pub record Rewritten (p : Program) (k : Contracts) (ms : List MethodDesc) (g : A
   pub bodies : (m : ℕ) → m < methods → Spliced p k (with_methods p ms) g types depths m (plan_at k p m) (marks m)
   pub appended : (m : ℕ) → methods ≤ m → effective_of k p m ≡ None
   pub guard : k.settings.guard ≤ 100
+  -- each type is under System.Object, since bases form no cycle (ECMA-335, II.10.1.3)
+  pub rooted : (t : Ty) → is_sub p t object_ty ≡ true
   -- a type of the input has methods of the input
   pub owned : (t : Ty) (w : World) (m : ℕ) → IsTrue (is_below types t) → Rattle.cil_semantics.specs.Frames.initializer p w t ≡ Rattle.cil_semantics.specs.Frames.ToRun m → m < methods
   -- the exception that a failed Requires<E> of the set makes is of the input
@@ -312,7 +316,7 @@ module _ (p : Program) (k : Contracts) (ms : List MethodDesc) (g : AddedNumbers)
 
   abbrev pub Unwinds_alike : Type 0
   Unwinds_alike =
-      (b b' : Continuation) (fs fs' : List Frame) → Under b b' fs fs' → AllStand fs → (w : World) (ss : List Statics) (x : ℕ) → Beside p k written g r.types r.depths w ss → w.depth ≡ count_groups fs → w.depth ≤ suc k.settings.guard
+      (b b' : Continuation) (fs fs' : List Frame) → Under b b' fs fs' → AllStand fs → (w : World) (ss : List Statics) (x : ℕ) → Beside p k written g r.types r.depths w ss → IsObject (length w.heap) x → w.depth ≡ count_groups fs → w.depth ≤ suc k.settings.guard
       → ReachesIn (2 * cost k p + per_frame (length fs)) (unwind p k (hasnt_begun b) fs w x) (unwind written no_contracts (hasnt_begun b') fs' (beside ss w) x)
 
   abbrev pub Enters_alike : Type 0
@@ -323,5 +327,5 @@ module _ (p : Program) (k : Contracts) (ms : List MethodDesc) (g : AddedNumbers)
   abbrev pub Plain_steps_answered : Type 0
   Plain_steps_answered =
       (f f' : Frame) (fs fs' : List Frame) (w : World) (ss : List Statics) (t : TopPair f f' fs fs' (unrecorded w) ss) (i : Instr) → fetch p k g (plan_in f.method) f.method f.at ≡ Some i → IsPlainAt p k written g r.types r.depths f.method (plan_in f.method) f.at i
-      → WellFormedAct bounds f.local (act p (here_of f fs) i (unrecorded w) f.local) → ActLeads f (act p (here_of f fs) i (unrecorded w) f.local) → step_frames p k g (f ∷ fs) (unrecorded w) ≡ run_plain p k g i f fs (unrecorded w)
+      → WellFormedAct bounds f.local (act p (here_of f fs) i (unrecorded w) f.local) → ActLeads f (act p (here_of f fs) i (unrecorded w) f.local) → ThrowsObject (length w.heap) f.handling (act p (here_of f fs) i (unrecorded w) f.local) → step_frames p k g (f ∷ fs) (unrecorded w) ≡ run_plain p k g i f fs (unrecorded w)
       → ReachesIn (suc (2 * cost k p + per_frame (suc (suc (length fs))))) (step p k g (record { frames = f ∷ fs; world = w })) (Running (record { frames = f' ∷ fs'; world = beside ss w }))

@@ -45,7 +45,8 @@ use Rattle.machine_laws.specs.Same.{most_clauses}
 use Rattle.splice_facts.specs.Grown.{grow, beside, IsCopy}
 use Rattle.machine_laws.specs.Answers.{is_below}
 use Rattle.splice_facts.specs.Comes.{Comes}
-use Rattle.splice_facts.specs.Input.{IsFound, is_group, top_of}
+use Rattle.splice_facts.specs.Exceptions.{IsException, FailuresThere}
+use Rattle.splice_facts.specs.Input.{IsFound, is_group, top_of, ReturnsAsNamed}
 use Rattle.splice_facts.specs.Layout.{fetch, IsHere, CanArrive, Onward, never_falls, Depths, HasDepth, Marks, Keeps}
 
 -- a check: a condition that doesn't hold is reported, and what follows goes by the reply
@@ -68,6 +69,8 @@ module _ (p : Program) (k : Contracts) (p' : Program) (g : AddedNumbers) (n : �
     pub depth : HasDepth w.depth (find_statics (Known depths.owner) ss)
     -- the exception's class has none, so no initializer of it has failed
     pub bare : find_statics (Known g.exception) ss ≡ None
+    -- an initializer of the input that failed keeps an object
+    pub failures : FailuresThere (length w.heap) w.statics
 
   -- the twin of a frame at a new place; what the frame has of an exception or a result is in its locals
   abbrev pub twin : Frame → LocalState → List Cell → ℕ → List Handling → Continuation → Frame
@@ -251,17 +254,17 @@ module _ (p : Program) (k : Contracts) (p' : Program) (g : AddedNumbers) (n : �
     -- an exception in a piece leaves the frame with the depth as before, but one in a capture is dropped
     pub breaks : (gr : Group) (j q q' : ℕ) (f : Frame) (fs fs' : List Frame) (w : World) (ex : List Cell) (ss : List Statics) (b : Continuation) (x : ℕ) → f.at ≡ InGroup gr j q → IsHere (Some plan) f.at → IsTrue (m.belongs f.at q') → f.method ≡ me → FitsGroup gr f.thrown → 0 < w.depth → Paired m f fs fs' w ex ss → drops (piece_at (Some plan) gr j) ≡ false
         → (ss2 : List Statics) × Beside (state.lowered w) ss2 × Comes p' (cost k p) (unwind p' no_contracts false (twin f f.local ex q' [] b ∷ fs') (beside ss w) x) (leaves_with f b fs' (state.lowered w) ss2 x)
-    pub swallows : (gr : Group) (j q q' : ℕ) (f : Frame) (fs fs' : List Frame) (w : World) (ex : List Cell) (ss : List Statics) (b : Continuation) (x : ℕ) → f.at ≡ InGroup gr j q → IsHere (Some plan) f.at → IsTrue (m.belongs f.at q') → f.method ≡ me → FitsGroup gr f.thrown → 0 < w.depth → Paired m f fs fs' w ex ss → drops (piece_at (Some plan) gr j) ≡ true
+    pub swallows : (gr : Group) (j q q' : ℕ) (f : Frame) (fs fs' : List Frame) (w : World) (ex : List Cell) (ss : List Statics) (b : Continuation) (x : ℕ) → f.at ≡ InGroup gr j q → IsHere (Some plan) f.at → IsTrue (m.belongs f.at q') → f.method ≡ me → FitsGroup gr f.thrown → 0 < w.depth → Paired m f fs fs' w ex ss → drops (piece_at (Some plan) gr j) ≡ true → IsException p w x
         → ContinuesAt m plan group.Entry (cost k p) (unwind p' no_contracts false (twin f f.local ex q' [] b ∷ fs') (beside ss w) x) f fs f.local b fs' w (next_piece p plan group.Entry (j + 1) f fs w)
     -- behind the invariants the value is returned, behind the clauses on exceptions the exception goes on
-    pub returns : (f : Frame) (fs fs' : List Frame) (w : World) (ex : List Cell) (ss : List Statics) (b : Continuation) → f.method ≡ me → Stays plan f f.local.result → Paired m f fs fs' w ex ss
+    pub returns : (f : Frame) (fs fs' : List Frame) (w : World) (ex : List Cell) (ss : List Statics) (b : Continuation) → f.method ≡ me → ReturnsAsNamed p f → Stays plan f f.local.result → Paired m f fs fs' w ex ss
         → Comes p' (cost k p) (stands f f.local ex (m.out group.Invariant) b fs' w ss) (return_with p' no_contracts b f.local.args f.local.result fs' (beside ss w))
     pub throws : (f : Frame) (fs fs' : List Frame) (w : World) (ex : List Cell) (ss : List Statics) (b : Continuation) (x : ℕ) → f.method ≡ me → f.thrown ≡ Some x → has_any (pieces plan group.Throw) ≡ true → Paired m f fs fs' w ex ss
         → Comes p' (cost k p) (stands f f.local ex (m.out group.Throw) b fs' w ss) (leaves_with f b fs' w ss x)
     -- ret in the rest
-    pub lifts : (f : Frame) (fs fs' : List Frame) (w : World) (ex : List Cell) (ss : List Statics) (b : Continuation) (hs : List Handling) (q : ℕ) (i : Instr) (v : Option Value) → f.method ≡ me → has_exit plan ≡ true → f.at ≡ Rest q → IsHere (Some plan) f.at → fetch p k g (Some plan) me f.at ≡ Some i → class_of i.op ≡ class.Return → Paired m f fs fs' w ex ss → Current me f.at hs
+    pub lifts : (f : Frame) (fs fs' : List Frame) (w : World) (ex : List Cell) (ss : List Statics) (b : Continuation) (hs : List Handling) (q : ℕ) (i : Instr) (v : Option Value) → f.method ≡ me → ReturnsAsNamed p f → has_exit plan ≡ true → f.at ≡ Rest q → IsHere (Some plan) f.at → fetch p k g (Some plan) me f.at ≡ Some i → class_of i.op ≡ class.Return → Paired m f fs fs' w ex ss → Current me f.at hs
         → returned p f f.local.stack ≡ Some v → length f.local.stack ≡ length (top_of v) → Arrives m (cost k p) (from_here m f ex b fs' w ss hs) f fs (with_stack (record f.local { result = v }) []) (m.door group.Exit) b fs' w
-    pub lifts_stuck : (f : Frame) (fs fs' : List Frame) (w : World) (ex : List Cell) (ss : List Statics) (b : Continuation) (hs : List Handling) (q : ℕ) (i : Instr) → f.method ≡ me → has_exit plan ≡ true → f.at ≡ Rest q → IsHere (Some plan) f.at → fetch p k g (Some plan) me f.at ≡ Some i → class_of i.op ≡ class.Return → Paired m f fs fs' w ex ss → Current me f.at hs
+    pub lifts_stuck : (f : Frame) (fs fs' : List Frame) (w : World) (ex : List Cell) (ss : List Statics) (b : Continuation) (hs : List Handling) (q : ℕ) (i : Instr) → f.method ≡ me → ReturnsAsNamed p f → has_exit plan ≡ true → f.at ≡ Rest q → IsHere (Some plan) f.at → fetch p k g (Some plan) me f.at ≡ Some i → class_of i.op ≡ class.Return → Paired m f fs fs' w ex ss → Current me f.at hs
         → returned p f f.local.stack ≡ None → Comes p' (cost k p) (from_here m f ex b fs' w ss hs) (stuck (beside ss w))
     -- the call that ends a clause
     pub checks : (gr : Group) (j q : ℕ) (x : Piece) (i : Instr) (kd : ClauseKind) (c : Condition) (f : Frame) (fs fs' : List Frame) (w : World) (ex : List Cell) (ss : List Statics) (b : Continuation) → f.method ≡ me → f.at ≡ InGroup gr j q → IsHere (Some plan) f.at → piece_at (Some plan) gr j ≡ Some x → slice_get x.clause.instrs q ≡ Some i → contract_call p i ≡ EndsClause kd → Paired m f fs fs' w ex ss
@@ -311,6 +314,6 @@ module _ (p : Program) (k : Contracts) (p' : Program) (g : AddedNumbers) (n : �
     -- in the lead-in, and where no clause on exceptions is kept, nothing else is found
     pub unguarded : (at : ProgramPoint) (q skip q' : ℕ) (fits : Token → Bool) → IsHere plan at → is_group at ≡ false → is_guarded plan at ≡ false → IsHere plan (moved_to q at) → IsTrue (m.belongs (moved_to q at) q') → search_from fits skip 0 q (body_of p me).regions ≡ NoHandler → search_from fits skip 0 q' (body_of p' me).regions ≡ NoHandler
     -- the wrapper: an exception of the rest that no old region takes is kept, and the group of EnsuresOnThrow begins
-    pub wrapper : (f : Frame) (fs fs' : List Frame) (w : World) (ex : List Cell) (ss : List Statics) (b : Continuation) (q skip q' q0 x : ℕ) (hs hs' : List Handling) → f.method ≡ me → Paired m f fs fs' w ex ss → AreLow me hs' → IsHere plan f.at → is_guarded plan f.at ≡ true → IsHere plan (moved_to q f.at) → IsTrue (m.belongs (moved_to q f.at) q') → searched p f w x skip q f.at ≡ NoHandler
+    pub wrapper : (f : Frame) (fs fs' : List Frame) (w : World) (ex : List Cell) (ss : List Statics) (b : Continuation) (q skip q' q0 x : ℕ) (hs hs' : List Handling) → f.method ≡ me → Paired m f fs fs' w ex ss → AreLow me hs' → IsHere plan f.at → is_guarded plan f.at ≡ true → IsHere plan (moved_to q f.at) → IsTrue (m.belongs (moved_to q f.at) q') → searched p f w x skip q f.at ≡ NoHandler → IsException p w x
         → Arrives m (cost k p) (throws_in p' no_contracts (twin f f.local ex q0 hs b) hs' skip q' fs' (beside ss w) x (λ s v y. unwind p' no_contracts s fs' v y)) (record f { thrown = Some x }) fs (with_stack f.local []) (m.door group.Throw) b fs' w
     pub groups : GroupsIf me plan m

@@ -243,6 +243,7 @@ module _ (p : Program) (k : Contracts) (p' : Program) (g : AddedNumbers) (n : �
                   statics = others_set depths.owner n (w.depth + 1) W depths.appended ∙ (s.beside).statics;
                   depth = depth_set depths.owner w.depth (w.depth + 1) W (s.beside).depth;
                   bare = apart_set depths.owner g.exception (w.depth + 1) W depths.apart ∙ (s.beside).bare;
+                  failures = (s.beside).failures;
                 };
                 comes = comes_within p' (10 + 1) (cost k p) _ _ (omega (arith, many))
                     (comes_on p' 10 1 _ _ _ (asks f fs fs' w ex ss b true a s (asked gr w.depth true q))
@@ -284,6 +285,7 @@ module _ (p : Program) (k : Contracts) (p' : Program) (g : AddedNumbers) (n : �
             statics = others_set depths.owner n (w.depth - 1) (beside ss w) depths.appended ∙ (s.beside).statics;
             depth = depth_set depths.owner w.depth (w.depth - 1) (beside ss w) (s.beside).depth;
             bare = apart_set depths.owner g.exception (w.depth - 1) (beside ss w) depths.apart ∙ (s.beside).bare;
+            failures = (s.beside).failures;
           }
 
       -- continues

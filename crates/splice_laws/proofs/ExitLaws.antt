@@ -40,7 +40,7 @@ use Rattle.cil_semantics.specs.Contracted.{Plan}
 use Rattle.cil_semantics.specs.Frames.{stuck}
 use Rattle.machine_laws.specs.Same.{plain_step}
 use Rattle.splice_facts.specs.Comes.{Comes}
-use Rattle.splice_facts.specs.Input.{top_of}
+use Rattle.splice_facts.specs.Input.{top_of, ReturnsAsNamed}
 use Rattle.splice_laws.specs.ExitCode.{goes_to, lifted_code, exit_code, LiftedAt, ExitCode, ExitSeams}
 use Rattle.splice_laws.proofs.LeavingLaws.{leaves_plainly}
 use Rattle.splice_laws.proofs.ToldLaws.{rets_plainly}
@@ -142,7 +142,10 @@ module _ (p : Program) (k : Contracts) (p' : Program) (g : AddedNumbers) (n : �
   goes f b l q fs' w true a there none = leaves_plainly p' (base f b) (with_stack l []) q EXIT [] fs' w (at_me f q _ a there) (ap (λ z. left_from 0 0 q EXIT (body_of p' z).regions) a ∙ none) refl
   goes f b l q fs' w false a there none = jumps_one p' (base f b) (with_stack l []) (with_stack l []) q EXIT [] fs' w (br EXIT) (at_me f q _ a there) (jumps_br p' (here_of (base f b) fs') EXIT (with_stack l [])) refl
 
-  module _ (f : Frame) (fs fs' : List Frame) (w : World) (ex : List Cell) (ss : List Statics) (b : Continuation) (a : f.method ≡ me) (s : Paired p k p' g n depths m f fs fs' w ex ss) where
+  module _ (f : Frame) (fs fs' : List Frame) (w : World) (ex : List Cell) (ss : List Statics) (b : Continuation) (a : f.method ≡ me) (named : ReturnsAsNamed p f) (s : Paired p k p' g n depths m f fs fs' w ex ss) where
+    kind_of : is_void (storage p (result_type p f)) ≡ e.void
+    kind_of = named ∙ ap (λ z. is_void (storage p (method_of p z).result)) a ∙ sym e.void_is
+
     abbrev F : Frame
     F = base f b
 
@@ -228,7 +231,7 @@ module _ (p : Program) (k : Contracts) (p' : Program) (g : AddedNumbers) (n : �
           }
 
       as_void : (t : Bool) → e.void ≡ t → is_void (storage p (result_type p f)) ≡ t
-      as_void t h = e.kind f a ∙ h
+      as_void t h = kind_of ∙ h
 
       pub lifts : (v : Option Value) → returned p f f.local.stack ≡ Some v → length f.local.stack ≡ length (top_of v) → Goal v
       lifts v gives long = by_void e.void refl (lifted.code)
@@ -280,7 +283,7 @@ module _ (p : Program) (k : Contracts) (p' : Program) (g : AddedNumbers) (n : �
         R = m.out group.Invariant
 
         by_result : e.void ≡ false → StandAt (body_of p' me).instrs R (exit_code false e.result) → (u : Option Value) → f.local.result ≡ u → returned p f (top_of u) ≡ Some u → Comes p' 2 (at_place F (grow ex f.local) R [] fs' W) (return_with p' no_contracts b f.local.args u fs' W)
-        by_result nv code None er rt = absurd (value_given p (result_type p f) (storage p (result_type p f)) [] (e.kind f a ∙ nv) rt)
+        by_result nv code None er rt = absurd (value_given p (result_type p f) (storage p (result_type p f)) [] (kind_of ∙ nv) rt)
         by_result nv code (Some x) er rt =
             let c = (o nv).cell in
             let held : c.value ≡ x = (let z : Some c.value ≡ Some x = sym (ap (option_map (λ (y : Cell). y.value)) (o nv).there) ∙ (s.keeps).result x er in cc z) in
@@ -288,23 +291,23 @@ module _ (p : Program) (k : Contracts) (p' : Program) (g : AddedNumbers) (n : �
             (goes_one p' F (grow ex f.local) (pushed c.value (grow ex f.local)) R [] fs' W (ldloc e.result) (at_me f R _ a code.0) (does_ldloc p' (here_of F fs') e.result c (grow ex f.local) (there nv)) refl)
             (one_step p' F (pushed c.value (grow ex f.local)) (R + 1) [] fs' W 0 _ _
             (rets_plainly p' F (pushed c.value (grow ex f.local)) (R + 1) [] fs' W (Some x) (at_me f (R + 1) _ a (code.1).0)
-            (ap (λ z. returned p' F (z ∷ f.local.stack)) held ∙ e.same_result F (x ∷ f.local.stack) a ∙ tops_of p (result_type p f) (storage p (result_type p f)) x f.local.stack (Some x) (e.kind f a ∙ nv) rt))
+            (ap (λ z. returned p' F (z ∷ f.local.stack)) held ∙ e.same_result F (x ∷ f.local.stack) a ∙ tops_of p (result_type p f) (storage p (result_type p f)) x f.local.stack (Some x) (kind_of ∙ nv) rt))
             (comes_at_once p' 0 _ _ refl))
 
         by_void : (t : Bool) → e.void ≡ t → StandAt (body_of p' me).instrs R (exit_code t e.result) → Comes p' (cost k p) (stands p k p' g n depths f f.local ex R b fs' w ss) (return_with p' no_contracts b f.local.args f.local.result fs' W)
         by_void false h code = comes_within p' 2 (cost k p) _ _ (omega arith) (by_result h code f.local.result refl st.1)
         by_void true h code =
-            let nothing : Some None ≡ Some f.local.result = sym (void_gives p (result_type p f) (storage p (result_type p f)) (top_of f.local.result) (e.kind f a ∙ h)) ∙ st.1 in
+            let nothing : Some None ≡ Some f.local.result = sym (void_gives p (result_type p f) (storage p (result_type p f)) (top_of f.local.result) (kind_of ∙ h)) ∙ st.1 in
             let same : None ≡ f.local.result = cc nothing in
             comes_within p' 1 (cost k p) _ _ (omega arith)
             (one_step p' F (grow ex f.local) R [] fs' W 0 _ _
-            (rets_plainly p' F (grow ex f.local) R [] fs' W f.local.result (at_me f R _ a code.0) (e.same_result F f.local.stack a ∙ void_gives p (result_type p f) (storage p (result_type p f)) f.local.stack (e.kind f a ∙ h) ∙ nothing))
+            (rets_plainly p' F (grow ex f.local) R [] fs' W f.local.result (at_me f R _ a code.0) (e.same_result F f.local.stack a ∙ void_gives p (result_type p f) (storage p (result_type p f)) f.local.stack (kind_of ∙ h) ∙ nothing))
             (comes_at_once p' 0 _ _ refl))
 
   pub exit_seams : ExitSeams p k p' g n depths me plan m
   exit_seams =
       record {
-        returns = λ f fs fs' w ex ss b a st s. returns_it f fs fs' w ex ss b a s st;
-        lifts = λ f fs fs' w ex ss b hs q i v a at here there_is ret_is s cu gives long. lifts f fs fs' w ex ss b a s hs q i at here there_is ret_is cu v gives long;
-        lifts_stuck = λ f fs fs' w ex ss b hs q i a at here there_is ret_is s cu gives. lifts_stuck f fs fs' w ex ss b a s hs q i at here there_is ret_is cu gives;
+        returns = λ f fs fs' w ex ss b a named st s. returns_it f fs fs' w ex ss b a named s st;
+        lifts = λ f fs fs' w ex ss b hs q i v a named at here there_is ret_is s cu gives long. lifts f fs fs' w ex ss b a named s hs q i at here there_is ret_is cu v gives long;
+        lifts_stuck = λ f fs fs' w ex ss b hs q i a named at here there_is ret_is s cu gives. lifts_stuck f fs fs' w ex ss b a named s hs q i at here there_is ret_is cu gives;
       }

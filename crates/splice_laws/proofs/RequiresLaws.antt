@@ -133,14 +133,14 @@ module _ (p : Program) (k : Contracts) (p' : Program) (g : AddedNumbers) (n : �
               by_group (λ gr1. f.at ≡ InGroup gr1 j q → (ss2 : List Statics) × Rattle.splice_facts.specs.Spliced.Beside p k p' g n depths (state.lowered w) ss2 × Comes p' (cost k p) (Rattle.cil_semantics.specs.Unwind.unwind p' Rattle.cil_model.specs.NoContracts.no_contracts false (Rattle.splice_facts.specs.Spliced.twin p k p' g n depths f f.local ex q' [] b ∷ fs') (beside ss w) x) (Rattle.splice_facts.specs.Spliced.leaves_with p k p' g n depths f b fs' (state.lowered w) ss2 x)) gr
               (λ at1. at_entry.breaks j q q' f fs fs' w ex ss b x at1 bel a some s)
               (λ d at1. let h = subst (IsHere (Some plan)) at1 here in absurd (no_piece gr j h.0 d h.1)) at;
-          swallows = λ gr j q q' f fs fs' w ex ss b x at here bel a fit some s dr.
+          swallows = λ gr j q q' f fs fs' w ex ss b x at here bel a fit some s dr thrown.
               absurd (by_group (λ gr1. f.at ≡ InGroup gr1 j q → drops (piece_at (Some plan) gr1 j) ≡ true → ⊥) gr
               (λ at1 dr1. let z : false ≡ true = sym (entry_drops_none j (piece_at (Some plan) group.Entry j) refl) ∙ dr1 in cc z)
               (λ d at1 dr1. let h = subst (IsHere (Some plan)) at1 here in no_piece gr j h.0 d h.1) at dr);
-          returns = λ f fs fs' w ex ss b a st s. absurd (no_exit st.0);
+          returns = λ f fs fs' w ex ss b a named st s. absurd (no_exit st.0);
           throws = λ f fs fs' w ex ss b x a th kept s. absurd (no_throw kept);
-          lifts = λ f fs fs' w ex ss b hs q i v a ext. absurd (no_exit ext);
-          lifts_stuck = λ f fs fs' w ex ss b hs q i a ext. absurd (no_exit ext);
+          lifts = λ f fs fs' w ex ss b hs q i v a named ext. absurd (no_exit ext);
+          lifts_stuck = λ f fs fs' w ex ss b hs q i a named ext. absurd (no_exit ext);
           checks = λ gr j q x i kd c f fs fs' w ex ss b a at here there instr ends s given1.
               by_group (λ gr1. f.at ≡ InGroup gr1 j q → piece_at (Some plan) gr1 j ≡ Some x → Rattle.splice_facts.specs.Spliced.Checked p k p' g n depths m f fs fs' w ex ss b [] (Rattle.splice_facts.specs.Spliced.clause_failure p k p' g n depths f fs x c.user) c.holds c.rest (m.behind gr1 j)) gr
               (λ at1 there1. at_entry.checks j q x i kd c f fs fs' w ex ss b a at1 there1 instr ends s given1)

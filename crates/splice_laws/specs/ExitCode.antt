@@ -24,11 +24,11 @@ use Rattle.cil_semantics.specs.Types.{under}
 use Rattle.cil_semantics.specs.Contracted.{Plan}
 use Rattle.cil_semantics.specs.Unwind.{body_of, in_handler, left_from}
 use Rattle.cil_semantics.specs.Frames.{stuck}
-use Rattle.cil_semantics.specs.Returns.{result_type, returned, return_with}
+use Rattle.cil_semantics.specs.Returns.{returned, return_with}
 use Rattle.cil_semantics.specs.Checks.{AddedNumbers}
 use Rattle.splice_facts.specs.Comes.{Comes}
 use Rattle.splice_facts.specs.Grown.{beside}
-use Rattle.splice_facts.specs.Input.{top_of}
+use Rattle.splice_facts.specs.Input.{top_of, ReturnsAsNamed}
 use Rattle.splice_facts.specs.Layout.{Depths, Marks, IsHere, fetch}
 use Rattle.splice_facts.specs.Spliced.{Paired, Current, Stays, Arrives, stands, from_here, cost}
 use Rattle.splice_laws.specs.Straight.{ldloc, stloc, ret, br, leave, StandAt}
@@ -55,10 +55,10 @@ module _ (p : Program) (k : Contracts) (p' : Program) (g : AddedNumbers) (n : �
     pub unhandled : (h : Handling) → in_handler (body_of p me).regions q h ≡ false
     pub passes : (at : ℕ) → m.places (Rest q) ≤ at → at ≤ m.places (Rest q) + 1 → left_from 0 0 at (m.door group.Exit) (body_of p' me).regions ≡ None
 
-  -- The code of the exit, of a method whose result isn't void for some type arguments alone.
+  -- the code of the exit
   pub record ExitCode : Type 0 where
     pub void : Bool
-    pub kind : (f : Frame) → f.method ≡ me → is_void (storage p (result_type p f)) ≡ void
+    pub void_is : void ≡ is_void (storage p (method_of p me).result)
     pub wrapped : Bool
     pub result : ℕ
     pub result_is : result ≡ m.old_locals + m.olds + m.result_at
@@ -72,9 +72,9 @@ module _ (p : Program) (k : Contracts) (p' : Program) (g : AddedNumbers) (n : �
 
   -- what is asked of the exit
   pub record ExitSeams : Type 0 where
-    pub returns : (f : Frame) (fs fs' : List Frame) (w : World) (ex : List Cell) (ss : List Statics) (b : Continuation) → f.method ≡ me → Stays p k p' g n depths plan f f.local.result → Paired p k p' g n depths m f fs fs' w ex ss
+    pub returns : (f : Frame) (fs fs' : List Frame) (w : World) (ex : List Cell) (ss : List Statics) (b : Continuation) → f.method ≡ me → ReturnsAsNamed p f → Stays p k p' g n depths plan f f.local.result → Paired p k p' g n depths m f fs fs' w ex ss
         → Comes p' (cost k p) (stands p k p' g n depths f f.local ex (m.out group.Invariant) b fs' w ss) (return_with p' no_contracts b f.local.args f.local.result fs' (beside ss w))
-    pub lifts : (f : Frame) (fs fs' : List Frame) (w : World) (ex : List Cell) (ss : List Statics) (b : Continuation) (hs : List Handling) (q : ℕ) (i : Instr) (v : Option Value) → f.method ≡ me → f.at ≡ Rest q → IsHere (Some plan) f.at → fetch p k g (Some plan) me f.at ≡ Some i → class_of i.op ≡ class.Return → Paired p k p' g n depths m f fs fs' w ex ss → Current p k p' g n depths me f.at hs
+    pub lifts : (f : Frame) (fs fs' : List Frame) (w : World) (ex : List Cell) (ss : List Statics) (b : Continuation) (hs : List Handling) (q : ℕ) (i : Instr) (v : Option Value) → f.method ≡ me → ReturnsAsNamed p f → f.at ≡ Rest q → IsHere (Some plan) f.at → fetch p k g (Some plan) me f.at ≡ Some i → class_of i.op ≡ class.Return → Paired p k p' g n depths m f fs fs' w ex ss → Current p k p' g n depths me f.at hs
         → returned p f f.local.stack ≡ Some v → length f.local.stack ≡ length (top_of v) → Arrives p k p' g n depths m (cost k p) (from_here p k p' g n depths m f ex b fs' w ss hs) f fs (with_stack (record f.local { result = v }) []) (m.door group.Exit) b fs' w
-    pub lifts_stuck : (f : Frame) (fs fs' : List Frame) (w : World) (ex : List Cell) (ss : List Statics) (b : Continuation) (hs : List Handling) (q : ℕ) (i : Instr) → f.method ≡ me → f.at ≡ Rest q → IsHere (Some plan) f.at → fetch p k g (Some plan) me f.at ≡ Some i → class_of i.op ≡ class.Return → Paired p k p' g n depths m f fs fs' w ex ss → Current p k p' g n depths me f.at hs
+    pub lifts_stuck : (f : Frame) (fs fs' : List Frame) (w : World) (ex : List Cell) (ss : List Statics) (b : Continuation) (hs : List Handling) (q : ℕ) (i : Instr) → f.method ≡ me → ReturnsAsNamed p f → f.at ≡ Rest q → IsHere (Some plan) f.at → fetch p k g (Some plan) me f.at ≡ Some i → class_of i.op ≡ class.Return → Paired p k p' g n depths m f fs fs' w ex ss → Current p k p' g n depths me f.at hs
         → returned p f f.local.stack ≡ None → Comes p' (cost k p) (from_here p k p' g n depths m f ex b fs' w ss hs) (stuck (beside ss w))
