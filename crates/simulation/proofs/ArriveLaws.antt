@@ -28,7 +28,7 @@ use Rattle.splice_facts.specs.Grown.{grow, beside}
 use Rattle.splice_facts.specs.Comes.{Reaches}
 use Rattle.splice_facts.specs.Input.{PieceFacts, PiecesIf}
 use Rattle.splice_facts.specs.Layout.{Marks, Keeps, IsHere, CanArrive}
-use Rattle.splice_facts.specs.Spliced.{Beside, twin, stands, Arrives, OpensAt, ContinuesAt, Paired, Spliced, Groups, FitsGroup, cost}
+use Rattle.splice_facts.specs.Spliced.{Beside, twin, stands, Arrives, OpensAt, ContinuesAt, Paired, Spliced, Groups, FitsGroup, cost, opening_cost}
 use Rattle.splice_facts.specs.Related.{Rewritten, AlikeWorlds, HandlingPair, HandlingPairs, Waits, FramePair, Under, Frames, Related, laid_by, plan_in, marks_in, written}
 use Rattle.splice_facts.specs.Related as Pairs
 use Rattle.splice_facts.proofs.ComesLaws.{reaches_by, reaches_within, reaches_at_once, found_piece}
@@ -166,6 +166,12 @@ module _ (p : Program) (k : Contracts) (ms : List MethodDesc) (g : AddedNumbers)
   abbrev pub Fits : Group → Option ℕ → Type 0
   Fits gr o = FitsGroup p k p' g r.types r.depths gr o
 
+  abbrev pub Comes_in : ℕ → Frame → List Frame → Local → ℕ → Continuation → List Frame → World → Next → Type 0
+  Comes_in c h fs l q b fs' w from = Arrives p k p' g r.types r.depths (mk h.method) c from h fs l q b fs' w
+
+  abbrev pub begin_in : Group → ℕ
+  begin_in gr = opening_cost k p gr
+
   abbrev pub Comes_to : Frame → List Frame → Local → ℕ → Continuation → List Frame → World → Next → Type 0
   Comes_to h fs l q b fs' w from = Arrives p k p' g r.types r.depths (mk h.method) cst from h fs l q b fs' w
 
@@ -183,18 +189,18 @@ module _ (p : Program) (k : Contracts) (ms : List MethodDesc) (g : AddedNumbers)
       (arrives_here cst from h (InGroup gr x.0 x.1.from) (with_stack l []) b fs fs' v old (piece_here c h gr x e old (there x refl)) (comes x refl) under)
 
   opened : (c : Plan) (gr : Group) (h : Frame) (l : Local) (b : Continuation) (fs fs' : List Frame) (w : World) (from over : Next) (o : Option (ℕ × Piece)) (t : Bool) → plan h.method ≡ Some c → h.method < r.methods → below h.continuation b fs fs' → ((x : ℕ × Piece) → o ≡ Some x → piece_at (Some c) gr x.0 ≡ Some x.1)
-      → OpensAt p k p' g r.types r.depths (mk h.method) c gr cst from h fs l b fs' w o t → (n : ℕ) → cst + lay (suc (length fs)) ≤ n → (Comes_to h fs (with_stack l []) ((mk h.method).out gr) b fs' w from → To n over from)
+      → OpensAt p k p' g r.types r.depths (mk h.method) c gr (begin_in gr) from h fs l b fs' w o t → (n : ℕ) → begin_in gr + lay (suc (length fs)) ≤ n → (Comes_in (begin_in gr) h fs (with_stack l []) ((mk h.method).out gr) b fs' w from → To n over from)
       → To n (if t then begin_piece p gr o (with_local l h) fs (raised w) over else over) from
   opened c gr h l b fs fs' w from over (Some x) true e old under there a n le other =
-      reaches_within p' E R f (cst + lay (suc (length fs))) n _ from le
-      (arrives_here cst from h (InGroup gr x.0 x.1.from) (with_stack l []) b fs fs' (raised w) old (piece_here c h gr x e old (there x refl)) a under)
+      reaches_within p' E R f (begin_in gr + lay (suc (length fs))) n _ from le
+      (arrives_here (begin_in gr) from h (InGroup gr x.0 x.1.from) (with_stack l []) b fs fs' (raised w) old (piece_here c h gr x e old (there x refl)) a under)
   opened c gr h l b fs fs' w from over (Some x) false e old under there a n le other = other a
   opened c gr h l b fs fs' w from over None true e old under there a n le other = other a
   opened c gr h l b fs fs' w from over None false e old under there a n le other = other a
 
   -- a group begins, or is passed over
   pub group_begins : (c : Plan) (gr : Group) (h : Frame) (l : Local) (ex : List Cell) (b : Continuation) (fs fs' : List Frame) (w : World) (ss : List Statics) (over : Next) → plan h.method ≡ Some c → h.method < r.methods → gr ≢ group.Entry → l.stack ≡ [] → Fits gr h.thrown → Keeps (mk h.method) (here_of h fs) h.thrown l ex → IsBeside w ss → length fs' ≡ length fs → w.depth ≤ suc k.settings.guard → below h.continuation b fs fs'
-      → (n : ℕ) → cst + lay (suc (length fs)) ≤ n → (Comes_to (record h { local = l }) fs (with_stack l []) ((mk h.method).out gr) b fs' w (stands p k p' g r.types r.depths h l ex ((mk h.method).door gr) b fs' w ss) → To n over (stands p k p' g r.types r.depths h l ex ((mk h.method).door gr) b fs' w ss))
+      → (n : ℕ) → begin_in gr + lay (suc (length fs)) ≤ n → (Comes_in (begin_in gr) (record h { local = l }) fs (with_stack l []) ((mk h.method).out gr) b fs' w (stands p k p' g r.types r.depths h l ex ((mk h.method).door gr) b fs' w ss) → To n over (stands p k p' g r.types r.depths h l ex ((mk h.method).door gr) b fs' w ss))
       → To n (begin_group p c gr (with_local l h) fs w over) (stands p k p' g r.types r.depths h l ex ((mk h.method).door gr) b fs' w ss)
   group_begins c gr h l ex b fs fs' w ss over e old other_group empty fits keeps bes numbers deep under n le other =
       let h1 : Frame = record h { local = l } in

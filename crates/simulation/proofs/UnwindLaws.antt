@@ -37,7 +37,7 @@ use Rattle.splice_facts.specs.Grown.{beside}
 use Rattle.splice_facts.specs.Comes.{Comes}
 use Rattle.machine_laws.specs.Answers.{is_below}
 use Rattle.splice_facts.specs.Layout.{Marks, Keeps, IsHere, CanArrive}
-use Rattle.splice_facts.specs.Spliced.{Beside, twin, stands, Arrives, OpensAt, ContinuesAt, Paired, Spliced, Groups, FitsGroup, leaves_with, moved_found, is_guarded, cost}
+use Rattle.splice_facts.specs.Spliced.{Beside, twin, stands, Arrives, OpensAt, ContinuesAt, Paired, Spliced, Groups, FitsGroup, leaves_with, moved_found, is_guarded, cost, opening_cost, wrapper_cost}
 use Rattle.splice_facts.specs.Exceptions.{IsObject, FailureThere}
 use Rattle.splice_facts.proofs.ExceptionLaws.{more_object, more_failures, set_failures, new_object, longer, is_exception}
 use Rattle.splice_facts.specs.Input.{is_group, LandsAt}
@@ -203,18 +203,18 @@ module _ (p : Program) (k : Contracts) (ms : List MethodDesc) (g : AddedNumbers)
 
   -- the group of EnsuresOnThrow begins, or the exception goes on
   throw_group : (c : Plan) (h : Frame) (l : Local) (ex : List Cell) (b : Continuation) (fs fs' : List Frame) (w : World) (ss : List Statics) (x : ℕ) → l.stack ≡ [] → Rattle.splice_facts.specs.Spliced.has_any p k p' g r.types r.depths (pieces c group.Throw) ≡ true → plan h.method ≡ Some c → h.method < r.methods → Keeps (mk h.method) (here_of h fs) (Some x) l ex → IsBeside w ss → IsObject (length w.heap) x → length fs' ≡ length fs → w.depth ≤ suc k.settings.guard → w.depth ≡ count_groups fs → below h.continuation b fs fs' → Goes_down h.continuation b fs fs' → ((t : Ty) → h.initializes ≡ Some t → IsTrue (is_below r.types t))
-      → To (cst + lay (suc (length fs))) (begin_group p c group.Throw (with_local l (record h { thrown = Some x })) fs w (ends_frame p h.initializes h.continuation w x (λ s v y. unwind p k s fs v y))) (stands p k p' g r.types r.depths h l ex ((mk h.method).door group.Throw) b fs' w ss)
+      → To (opening_cost k p group.Throw + lay (suc (length fs))) (begin_group p c group.Throw (with_local l (record h { thrown = Some x })) fs w (ends_frame p h.initializes h.continuation w x (λ s v y. unwind p k s fs v y))) (stands p k p' g r.types r.depths h l ex ((mk h.method).door group.Throw) b fs' w ss)
   throw_group c h l ex b fs fs' w ss x empty kept e old keeps bes there numbers deep count under down own =
       let h1 : Frame = record h { thrown = Some x } in
       let over = ends_frame p h.initializes h.continuation w x (λ s v y. unwind p k s fs v y) in
       let door = stands p k p' g r.types r.depths h l ex ((mk h.method).door group.Throw) b fs' w ss in
-      group_begins p k ms g r c group.Throw h1 l ex b fs fs' w ss over e old (λ d. cc d) empty tt keeps bes numbers deep under (cst + lay (suc (length fs))) (omega arith)
+      group_begins p k ms g r c group.Throw h1 l ex b fs fs' w ss over e old (λ d. cc d) empty tt keeps bes numbers deep under (opening_cost k p group.Throw + lay (suc (length fs))) (omega arith)
       (λ a.
       let h2 : Frame = record h { thrown = Some x; local = with_stack l [] } in
       let scene : Paired p k p' g r.types r.depths (mk h.method) h2 fs fs' w a.extra a.statics = record { keeps = a.keeps; beside = a.beside; numbers = numbers; deep = deep } in
       let t = (groups_of p k ms g r h.method c e old).throws h2 fs fs' w a.extra a.statics b x refl refl kept scene in
-      reaches_within p' (Arriving.E p k ms g r) (Arriving.R p k ms g r) (Arriving.f p k ms g r) (cst + (cst + (2 * cst + lay (length fs)))) _ over door (omega arith)
-      (reaches_by p' (Arriving.E p k ms g r) (Arriving.R p k ms g r) (Arriving.f p k ms g r) cst (cst + (2 * cst + lay (length fs))) over door _ a.comes
+      reaches_within p' (Arriving.E p k ms g r) (Arriving.R p k ms g r) (Arriving.f p k ms g r) (opening_cost k p group.Throw + (cst + (2 * cst + lay (length fs)))) _ over door (omega arith)
+      (reaches_by p' (Arriving.E p k ms g r) (Arriving.R p k ms g r) (Arriving.f p k ms g r) (opening_cost k p group.Throw) (cst + (2 * cst + lay (length fs))) over door _ a.comes
       (reaches_by p' (Arriving.E p k ms g r) (Arriving.R p k ms g r) (Arriving.f p k ms g r) cst (2 * cst + lay (length fs)) over _ _ t (ends_so h b fs fs' w a.statics x down own a.beside there count deep))))
 
   abbrev pub reach_by : (m n : ℕ) (x y z : Next) → Comes p' m y z → To n x z → To (m + n) x y
@@ -362,10 +362,10 @@ module _ (p : Program) (k : Contracts) (ms : List MethodDesc) (g : AddedNumbers)
           → To (2 * cst + lay (suc (length fs))) (begin_group p c group.Throw (record h { at = Rest a; thrown = Some x }) fs w ended) (new_throws h h.local ex q0 hs0 b hs' skip q' fs' w ss x)
       guarded c e u s =
           let a1 = (spliced h.method z.old).wrapper (record h { at = Rest a }) fs fs' w ex ss b q skip q' q0 x hs0 hs' refl scene (lows h.method (Rest a) hs hs' z.pairs) z.here u z.thrower z.belongs s (is_exception p w x r.rooted z.thrown_there) in
-          let t = throw_group c h (with_stack h.local []) a1.extra b fs fs' w a1.statics x refl (subst (λ o. is_guarded p k p' g r.types r.depths o (Rest a) ≡ true) e u) e z.old a1.keeps a1.beside z.numbers z.deep z.count z.under z.down z.own in
-          reach_within (cst + (cst + lay (suc (length fs)))) _ _ _ (omega arith)
-          (reach_by cst (cst + lay (suc (length fs))) _ _ _ a1.comes
-          (subst (λ y. To (cst + lay (suc (length fs))) (if runs_at c group.Throw w.depth then y else ended) (stands p k p' g r.types r.depths h (with_stack h.local []) a1.extra ((mk h.method).door group.Throw) b fs' w a1.statics)) (stale (next_piece p c group.Throw 0 (record h { thrown = Some x }) fs w)) t))
+          let t = throw_group c h (with_stack h.local []) a1.extra b fs fs' w a1.statics x refl (subst (λ o. is_guarded p k p' g r.types r.depths o (Rest a) ≡ true) e u) e z.old a1.keeps a1.beside z.thrown_there z.numbers z.deep z.count z.under z.down z.own in
+          reach_within (wrapper_cost k p + (opening_cost k p group.Throw + lay (suc (length fs)))) _ _ _ (omega arith)
+          (reach_by (wrapper_cost k p) (opening_cost k p group.Throw + lay (suc (length fs))) _ _ _ a1.comes
+          (subst (λ y. To (opening_cost k p group.Throw + lay (suc (length fs))) (if runs_at c group.Throw w.depth then y else ended) (stands p k p' g r.types r.depths h (with_stack h.local []) a1.extra ((mk h.method).door group.Throw) b fs' w a1.statics)) (stale (next_piece p c group.Throw 0 (record h { thrown = Some x }) fs w)) t))
         where
           stale : (o : Option (ℕ × Piece)) → begin_piece p group.Throw o (with_local (with_stack h.local []) (record h { thrown = Some x })) fs (raised w) ended ≡ begin_piece p group.Throw o (record h { at = Rest a; thrown = Some x }) fs (raised w) ended
           stale None = refl
@@ -452,7 +452,7 @@ module _ (p : Program) (k : Contracts) (ms : List MethodDesc) (g : AddedNumbers)
 
       by_drop : (d : Bool) → drops (piece_at (Some c) gr j) ≡ d → To (2 * cst + lay (suc (length fs))) (if d then after_entry_piece p c j f fs w else ends_frame p h.initializes h.continuation (lowered w) x (λ s v y. unwind p k s fs v y)) from
       by_drop true d =
-          let a = (groups_of p k ms g r h.method c e z.old).swallows gr j q q' f fs fs' w ex ss b x refl here z.belongs refl z.fits some_depth scene d in
+          let a = (groups_of p k ms g r h.method c e z.old).swallows gr j q q' f fs fs' w ex ss b x refl here z.belongs refl z.fits some_depth scene d (is_exception p w x r.rooted z.thrown_there) in
           continued c group.Entry f h.local b fs fs' w from (begin_rest p c f fs (lowered w)) (next_piece p c group.Entry (j + 1) f fs w) e z.old z.under (λ y s. found_piece p c group.Entry (j + 1) f fs w y s) a (2 * cst + lay (suc (length fs))) (omega arith)
           (λ a1. reach_within (cst + lay (suc (length fs))) _ _ _ (omega arith)
           (arrives_here p k ms g r cst from f (Rest c.effective.rest_from) (with_stack h.local []) b fs fs' (lowered w) z.old (rest_here p k ms g r c h.method e) (subst (λ y. Comes_to f fs (with_stack h.local []) y b fs' (lowered w) from) (groups_of p k ms g r h.method c e z.old).entry_out a1) z.under))
@@ -508,26 +508,26 @@ module _ (p : Program) (k : Contracts) (ms : List MethodDesc) (g : AddedNumbers)
 
   -- a frame that stands at its place, or at one where the plain run throws what it made
   pub pair_unwinds : (b b' : Continuation) (q : ℕ) (h h' : Frame) (fs fs' : List Frame) → hasnt_begun b ≡ false → hasnt_begun b' ≡ false → FramePair p k ms g r q h fs h' → IsHere (plan h.method) h.at → IsTrue ((mk h.method).belongs h.at q) → below h.continuation h'.continuation fs fs' → Pairs.Standing p k ms g r h fs → Goes_down h.continuation h'.continuation fs fs' → Goes_down b b' (h ∷ fs) (h' ∷ fs')
-  pair_unwinds b b' q h h' fs fs' nb nb' pair here belongs under ok down w ss x bes count deep =
+  pair_unwinds b b' q h h' fs fs' nb nb' pair here belongs under ok down w ss x bes there count deep =
       subst (λ c. To (2 * cst + lay (suc (length fs))) (unwind p k c (h ∷ fs) w x) (unwind p' no_contracts (hasnt_begun b') (h' ∷ fs') (beside ss w) x)) (sym nb)
       (subst (λ c. To (2 * cst + lay (suc (length fs))) (unwind p k false (h ∷ fs) w x) (unwind p' no_contracts c (h' ∷ fs') (beside ss w) x)) (sym nb')
       (subst (λ z. To (2 * cst + lay (suc (length fs))) (unwind p k false (h ∷ fs) w x) (unwind p' no_contracts false (z ∷ fs') (beside ss w) x)) (sym pair.same)
       (unwinds_at h h.at pair.extra h'.handling q h'.continuation fs fs' w ss x
-      (record { old = ok.old; here = here; belongs = belongs; keeps = pair.keeps; fits = ok.fits; waits = pair.waits; under = under; alike = bes; numbers = as_many h.continuation h'.continuation fs fs' under; deep = deep; count = count; down = down; own = ok.initializes }))))
+      (record { old = ok.old; here = here; thrown_there = there; belongs = belongs; keeps = pair.keeps; fits = ok.fits; waits = pair.waits; under = under; alike = bes; numbers = as_many h.continuation h'.continuation fs fs' under; deep = deep; count = count; down = down; own = ok.initializes }))))
 
   pub unwinds : (b b' : Continuation) (fs fs' : List Frame) → below b b' fs fs' → valid fs → Goes_down b b' fs fs'
   unfolding unwind
-  unwinds b b' fs fs' (Under.bottom b1 c) ok w ss x bes count deep =
+  unwinds b b' fs fs' (Under.bottom b1 c) ok w ss x bes there count deep =
       subst (λ z. To (2 * cst + lay 0) (unwind p k z [] w x) (unwind p' no_contracts z [] (beside ss w) x)) (sym (begun b1 c))
       (reach_now (2 * cst + lay 0) _ _ (omega arith) (refl, record { heap = refl; statics = sym bes.statics; trace = refl }))
-  unwinds b b' fs fs' (Under.waits b1 h h' hs hs' c pair here on under) ok w ss x bes count deep =
-      pair_unwinds b1 b1 ((mk h.method).places h.at) h h' hs hs' (begun b1 c) (begun b1 c) pair here ((r.bodies h.method (ok.0).old).own h.at here) under ok.0 (unwinds h.continuation h'.continuation hs hs' under ok.1) w ss x bes count deep
-  unwinds b b' fs fs' (Under.throws y q h h' hs hs' pair here t under) ok w ss x bes count deep =
-      pair_unwinds (ThrowObject y) (PushObject (Obj y)) q h h' hs hs' refl refl pair here t.belongs under ok.0 (unwinds h.continuation h'.continuation hs hs' under ok.1) w ss x bes count deep
-  unwinds b b' fs fs' (Under.begins h h' hs hs' pair first n n' under) ok w ss x bes count deep =
+  unwinds b b' fs fs' (Under.waits b1 h h' hs hs' c pair here on under) ok w ss x bes there count deep =
+      pair_unwinds b1 b1 ((mk h.method).places h.at) h h' hs hs' (begun b1 c) (begun b1 c) pair here ((r.bodies h.method (ok.0).old).own h.at here) under ok.0 (unwinds h.continuation h'.continuation hs hs' under ok.1) w ss x bes there count deep
+  unwinds b b' fs fs' (Under.throws y q h h' hs hs' pair here t under) ok w ss x bes there count deep =
+      pair_unwinds (ThrowObject y) (PushObject (Obj y)) q h h' hs hs' refl refl pair here t.belongs under ok.0 (unwinds h.continuation h'.continuation hs hs' under ok.1) w ss x bes there count deep
+  unwinds b b' fs fs' (Under.begins h h' hs hs' pair first n n' under) ok w ss x bes there count deep =
       let out : in_group h.at ≡ 0 = ap in_group first ∙ first_outside (plan h.method) in
       let c : w.depth ≡ count_groups hs = omega (arith, count, out) in
-      let t = unwinds h.continuation h'.continuation hs hs' under ok.1 w ss x bes c deep in
+      let t = unwinds h.continuation h'.continuation hs hs' under ok.1 w ss x bes there c deep in
       let t1 = subst (λ z. To (2 * cst + lay (length hs)) (unwind p k z hs w x) (unwind p' no_contracts (hasnt_begun h'.continuation) hs' (beside ss w) x)) n t in
       let t2 = subst (λ z. To (2 * cst + lay (length hs)) (unwind p k false hs w x) (unwind p' no_contracts z hs' (beside ss w) x)) n' t1 in
       reach_within (2 * cst + lay (length hs)) (2 * cst + lay (suc (length hs))) _ _ (omega arith) t2

@@ -58,6 +58,15 @@ checking p g throwing x sequel holds fs w = if holds then sequel.passes w else f
 abbrev pub cost : Contracts → Program → ℕ
 cost k p = 6 * (1 + most_clauses k p 0 p.methods)
 
+-- A group begins in as many, but that of EnsuresOnThrow first asks of each clause whether the exception fits.
+abbrev pub opening_cost : Contracts → Program → Group → ℕ
+opening_cost k p group.Throw = 8 * (1 + most_clauses k p 0 p.methods)
+opening_cost k p gr = cost k p
+
+-- the handler of the wrapper keeps the exception and leaves
+abbrev pub wrapper_cost : Contracts → Program → ℕ
+wrapper_cost k p = 4 * (1 + most_clauses k p 0 p.methods)
+
 -- so many steps a failure may take before the run of the input goes on
 abbrev pub failure_cost : Contracts → Program → ℕ
 failure_cost k p = 20 * (1 + most_clauses k p 0 p.methods)
@@ -247,7 +256,7 @@ module _ (p : Program) (k : Contracts) (p' : Program) (g : AddedNumbers) (n : �
     pub enters : (f : Frame) (fs fs' : List Frame) (w : World) (ex : List Cell) (ss : List Statics) (b : Continuation) → f.method ≡ me → f.thrown ≡ None → Paired m f fs fs' w ex ss
         → EntersAt m plan (cost k p) (stands f f.local ex (m.door group.Entry) b fs' w ss) f fs f.local b fs' w (next_piece p plan group.Entry 0 f fs w) (runs_at plan group.Entry w.depth)
     pub opens : (gr : Group) (f : Frame) (fs fs' : List Frame) (w : World) (ex : List Cell) (ss : List Statics) (b : Continuation) → gr ≢ group.Entry → f.local.stack ≡ [] → f.method ≡ me → FitsGroup gr f.thrown → Paired m f fs fs' w ex ss
-        → OpensAt m plan gr (cost k p) (stands f f.local ex (m.door gr) b fs' w ss) f fs f.local b fs' w (next_piece p plan gr 0 f fs w) (runs_at plan gr w.depth)
+        → OpensAt m plan gr (opening_cost k p gr) (stands f f.local ex (m.door gr) b fs' w ss) f fs f.local b fs' w (next_piece p plan gr 0 f fs w) (runs_at plan gr w.depth)
     -- behind a piece the next one begins, or the group is over
     pub continues : (gr : Group) (j : ℕ) (x : Piece) (f : Frame) (fs fs' : List Frame) (w : World) (ex : List Cell) (ss : List Statics) (b : Continuation) → piece_at (Some plan) gr j ≡ Some x → f.method ≡ me → FitsGroup gr f.thrown → 0 < w.depth → Paired m f fs fs' w ex ss
         → ContinuesAt m plan gr (cost k p) (stands f f.local ex (m.behind gr j) b fs' w ss) f fs f.local b fs' w (next_piece p plan gr (j + 1) f fs w)
@@ -315,5 +324,5 @@ module _ (p : Program) (k : Contracts) (p' : Program) (g : AddedNumbers) (n : �
     pub unguarded : (at : ProgramPoint) (q skip q' : ℕ) (fits : Token → Bool) → IsHere plan at → is_group at ≡ false → is_guarded plan at ≡ false → IsHere plan (moved_to q at) → IsTrue (m.belongs (moved_to q at) q') → search_from fits skip 0 q (body_of p me).regions ≡ NoHandler → search_from fits skip 0 q' (body_of p' me).regions ≡ NoHandler
     -- the wrapper: an exception of the rest that no old region takes is kept, and the group of EnsuresOnThrow begins
     pub wrapper : (f : Frame) (fs fs' : List Frame) (w : World) (ex : List Cell) (ss : List Statics) (b : Continuation) (q skip q' q0 x : ℕ) (hs hs' : List Handling) → f.method ≡ me → Paired m f fs fs' w ex ss → AreLow me hs' → IsHere plan f.at → is_guarded plan f.at ≡ true → IsHere plan (moved_to q f.at) → IsTrue (m.belongs (moved_to q f.at) q') → searched p f w x skip q f.at ≡ NoHandler → IsException p w x
-        → Arrives m (cost k p) (throws_in p' no_contracts (twin f f.local ex q0 hs b) hs' skip q' fs' (beside ss w) x (λ s v y. unwind p' no_contracts s fs' v y)) (record f { thrown = Some x }) fs (with_stack f.local []) (m.door group.Throw) b fs' w
+        → Arrives m (wrapper_cost k p) (throws_in p' no_contracts (twin f f.local ex q0 hs b) hs' skip q' fs' (beside ss w) x (λ s v y. unwind p' no_contracts s fs' v y)) (record f { thrown = Some x }) fs (with_stack f.local []) (m.door group.Throw) b fs' w
     pub groups : GroupsIf me plan m

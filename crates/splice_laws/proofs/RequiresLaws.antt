@@ -22,7 +22,7 @@ use Rattle.machine_laws.specs.Same.{most_clauses}
 use Rattle.splice_facts.specs.Comes.{Comes}
 use Rattle.splice_facts.specs.Grown.{beside}
 use Rattle.splice_facts.specs.Layout.{Depths, Marks, IsHere}
-use Rattle.splice_facts.specs.Spliced.{Paired, stands, from_here, Arrives, EntersAt, OpensAt, Groups, IsInline, FitsGroup, cost}
+use Rattle.splice_facts.specs.Spliced.{Paired, stands, from_here, Arrives, EntersAt, OpensAt, Groups, IsInline, FitsGroup, cost, opening_cost}
 use Rattle.splice_laws.specs.HelperRuns.{HelpersRun}
 use Rattle.splice_laws.specs.RequiresOnly.{RequiresOnly}
 use Rattle.splice_laws.specs.EntryCode.{EntryCode}
@@ -56,21 +56,21 @@ module _ (p : Program) (k : Contracts) (p' : Program) (g : AddedNumbers) (n : �
     no_first gr f fs w d = ap (first_from (takes_part p f fs w) 0 0) (given.only gr d)
 
     opens_none : (gr : Group) (f : Frame) (fs fs' : List Frame) (w : World) (ex : List Cell) (ss : List Statics) (b : Continuation) → gr ≢ group.Entry → f.local.stack ≡ [] → Sc f fs fs' w ex ss
-        → OpensAt p k p' g n depths m plan gr (cost k p) (stands p k p' g n depths f f.local ex (m.door gr) b fs' w ss) f fs f.local b fs' w (next_piece p plan gr 0 f fs w) (runs_at plan gr w.depth)
+        → OpensAt p k p' g n depths m plan gr (opening_cost k p gr) (stands p k p' g n depths f f.local ex (m.door gr) b fs' w ss) f fs f.local b fs' w (next_piece p plan gr 0 f fs w) (runs_at plan gr w.depth)
     opens_none gr f fs fs' w ex ss b d empty s =
         subst (λ o. Opens o (runs_at plan gr w.depth)) (sym (no_first gr f fs w d)) (by_test (runs_at plan gr w.depth))
       where
         Opens : Option (ℕ × Piece) → Bool → Type 0
-        Opens o t = OpensAt p k p' g n depths m plan gr (cost k p) (stands p k p' g n depths f f.local ex (m.door gr) b fs' w ss) f fs f.local b fs' w o t
+        Opens o t = OpensAt p k p' g n depths m plan gr (opening_cost k p gr) (stands p k p' g n depths f f.local ex (m.door gr) b fs' w ss) f fs f.local b fs' w o t
 
-        arrived : Arrives p k p' g n depths m (cost k p) (stands p k p' g n depths f f.local ex (m.door gr) b fs' w ss) f fs (with_stack f.local []) (m.out gr) b fs' w
+        arrived : Arrives p k p' g n depths m (opening_cost k p gr) (stands p k p' g n depths f f.local ex (m.door gr) b fs' w ss) f fs (with_stack f.local []) (m.out gr) b fs' w
         arrived =
             record {
               extra = ex;
               keeps = record { wide = (s.keeps).wide; caps = (s.keeps).caps; typed = (s.keeps).typed; result = (s.keeps).result; thrown = (s.keeps).thrown };
               statics = ss;
               beside = s.beside;
-              comes = comes_at_once p' (cost k p) _ _ (ap (λ z. stands p k p' g n depths f (with_stack f.local z) ex (m.door gr) b fs' w ss) empty ∙ ap (λ q. stands p k p' g n depths f (with_stack f.local []) ex q b fs' w ss) (given.doors gr d));
+              comes = comes_at_once p' (opening_cost k p gr) _ _ (ap (λ z. stands p k p' g n depths f (with_stack f.local z) ex (m.door gr) b fs' w ss) empty ∙ ap (λ q. stands p k p' g n depths f (with_stack f.local []) ex q b fs' w ss) (given.doors gr d));
             }
 
         by_test : (t : Bool) → Opens None t
