@@ -1,5 +1,5 @@
 -- A check in the run with contracts, and what stands for it in the plain run.
-use Rattle.std.proofs.Common.{◌≡◌, ℕ, Bool, true, false, List, [], ◌∷◌, Option, Some, None, refl, sym, subst}
+use Rattle.std.proofs.Common.{length, ◌≡◌, ℕ, Bool, true, false, List, [], ◌∷◌, Option, Some, None, refl, sym, subst}
 use Rattle.std.specs.Prelude.{if◌then◌else◌, map, codes}
 use Rattle.cil_model.specs.declared.ty.Ty.{Ty, Prim}
 use Rattle.cil_model.specs.declared.value.Value.{Value, out-Value, Null, Text, Obj}
@@ -25,6 +25,7 @@ use Rattle.cil_semantics.specs.State.{Next, with_object, next_object}
 use Rattle.cil_semantics.specs.declared.state.Continuation.TheVariants.{Push}
 use Rattle.cil_semantics.specs.Outside.{by_ref_args, fits, stored_back, Answer, Returned, Threw, Unfit, Member, next_reply, recorded, result_of, answered, ask}
 use Rattle.cil_semantics.specs.Checks.{AddedNumbers, Failure, Sequel, event_member, trigger_member, label_text, number_value, contract_failure, throw_exception, made_type, triggered, fail_with, replied, reported, failing}
+use Rattle.splice_facts.proofs.ExceptionLaws.{more_failures, longer, new_object}
 use Rattle.simulation.proofs.ProgramLaws.{with_object_same}
 use Rattle.splice_facts.specs.Bodies.{with_methods}
 use Rattle.splice_facts.specs.Grown.{beside}
@@ -95,7 +96,7 @@ module _ (p : Program) (k : Contracts) (ms : List MethodDesc) (g : AddedNumbers)
     triggers_so : (A A' : Answer) → KeepsHeap heap A → Alike.BothAnswer p k ms g r Push Push 0 0 d A A' → To n (triggered p g k.settings.throwing x s (with_frames fs A)) (triggered p' g k.settings.throwing x t (with_frames fs2 A'))
     triggers_so (Returned v gs u) (Returned v' gs' u') kh z = subst (λ y. To n (s.passes u) (t.passes y)) (sym (z.1).world) (a.passes_so u (z.1).statics (z.1).alike (z.1).depth kh)
     triggers_so (Threw y gs u) (Threw y' gs' u') kh z =
-        subst (λ y1. To n (s.throws u y) (t.throws u' y1)) (sym z.0) (subst (λ y1. To n (s.throws u y) (t.throws y1 y)) (sym (z.1).world) (a.throws_so u (z.1).statics y (z.1).alike (z.1).depth))
+        subst (λ y1. To n (s.throws u y) (t.throws u' y1)) (sym z.0) (subst (λ y1. To n (s.throws u y) (t.throws y1 y)) (sym (z.1).world) (a.throws_so u (z.1).statics y (z.1).alike z.2 (z.1).depth))
     triggers_so (Unfit u) (Unfit u') kh z = subst (λ y. To n (s.stops u) (t.stops y)) (sym z.world) (a.stops_so u z.statics z.alike)
     triggers_so (Returned v gs u) (Threw y' gs' u') kh z = absurd z
     triggers_so (Returned v gs u) (Unfit u') kh z = absurd z
@@ -112,7 +113,8 @@ module _ (p : Program) (k : Contracts) (ms : List MethodDesc) (g : AddedNumbers)
         (if b then t.throws (with_object p' (contract_failure g x) (beside ss w)) (next_object (beside ss w)) else triggered p' g k.settings.throwing x t (ask p' (trigger_member g) (trigger_values text) fs2 (beside ss w)))
     throws_or_triggers text w ss bes e h true =
         subst (λ y. To n (s.throws (with_object p (contract_failure g x) w) (next_object w)) (t.throws y (next_object (beside ss w)))) (sym (with_object_same p ms (contract_failure g x) (beside ss w)))
-        (a.throws_so (with_object p (contract_failure g x) w) ss (next_object w) (record { statics = bes.statics; depth = bes.depth; bare = bes.bare }) e)
+        (a.throws_so (with_object p (contract_failure g x) w) ss (next_object w)
+        (record { statics = bes.statics; depth = bes.depth; bare = bes.bare; failures = more_failures (length w.heap) (length (with_object p (contract_failure g x) w).heap) w.statics (longer w.heap (contract_failure g x)) bes.failures }) (new_object w.heap (contract_failure g x)) e)
     throws_or_triggers text w ss bes e h false =
         subst (λ A. To n (triggered p g k.settings.throwing x s A) (triggered p' g k.settings.throwing x t (ask p' (trigger_member g) (trigger_values text) fs2 (beside ss w)))) (sym (ask_frames p (trigger_member g) (trigger_values text) fs w (trigger_plain g)))
         (subst (λ A. To n (triggered p g k.settings.throwing x s (with_frames fs (ask p (trigger_member g) (trigger_values text) [] w))) (triggered p' g k.settings.throwing x t A)) (sym (ask_frames p' (trigger_member g) (trigger_values text) fs2 (beside ss w) (trigger_plain g)))
@@ -146,7 +148,7 @@ module _ (p : Program) (k : Contracts) (ms : List MethodDesc) (g : AddedNumbers)
         subst (λ q. To n (reported p g k.settings.throwing x s fs (Returned o fs u)) (reported p' g k.settings.throwing x t fs2 (Returned q fs2 u'))) (sym z.0)
         (subst (λ y. To n (reported p g k.settings.throwing x s fs (Returned o fs u)) (reported p' g k.settings.throwing x t fs2 (Returned o fs2 y))) (sym (z.1).world) (by_value o u (z.1).statics (z.1).alike (z.1).depth kh))
     answers_so (Threw y gs u) (Threw y' gs' u') kh z =
-        subst (λ y1. To n (s.throws u y) (t.throws u' y1)) (sym z.0) (subst (λ y1. To n (s.throws u y) (t.throws y1 y)) (sym (z.1).world) (a.throws_so u (z.1).statics y (z.1).alike (z.1).depth))
+        subst (λ y1. To n (s.throws u y) (t.throws u' y1)) (sym z.0) (subst (λ y1. To n (s.throws u y) (t.throws y1 y)) (sym (z.1).world) (a.throws_so u (z.1).statics y (z.1).alike z.2 (z.1).depth))
     answers_so (Unfit u) (Unfit u') kh z = subst (λ y. To n (s.stops u) (t.stops y)) (sym z.world) (a.stops_so u z.statics z.alike)
     answers_so (Returned v gs u) (Threw y' gs' u') kh z = absurd z
     answers_so (Returned v gs u) (Unfit u') kh z = absurd z

@@ -20,6 +20,7 @@ use Rattle.cil_semantics.specs.Contracted.{Piece, Plan, pieces}
 use Rattle.cil_semantics.specs.Unwind.{plan_at, piece_at, here_of, unwind}
 use Rattle.cil_semantics.specs.Returns.{piece_over}
 use Rattle.cil_semantics.specs.Checks.{AddedNumbers, Failure, Condition, check}
+use Rattle.splice_facts.specs.Exceptions.{IsObject, ObjectIf, BackThere}
 use Rattle.splice_facts.specs.Bodies.{with_methods}
 use Rattle.splice_facts.specs.Grown.{beside}
 use Rattle.splice_facts.specs.WellFormed.{WellFormedObjects}
@@ -101,15 +102,19 @@ module _ (p : Program) (k : Contracts) (ms : List MethodDesc) (g : AddedNumbers)
             deep = omega (arith, deep);
             count = omega (arith, e, z.count);
             heap = subst (WellFormedObjects (Pairs.bounds p k ms g r)) (sym same) z.heap;
+            thrown = subst (λ os. ObjectIf (length os) h.thrown) (sym same) z.thrown;
+            back = subst (λ os. BackThere (length os) h.continuation) (sym same) z.back;
+            named = z.named;
           }) bes deep some
 
-      throws : (v : World) (ss2 : List Statics) (y : ℕ) → IsBeside v ss2 → v.depth ≡ w.depth → To (ending (length fs)) (unwind p k false (record h { local = l } ∷ fs) v y) (unwind p' no_contracts false (Unwinding.tw p k ms g r h l ch.after ch.seam [] b' ∷ fs') (beside ss2 v) y)
-      throws v ss2 y bes e =
+      throws : (v : World) (ss2 : List Statics) (y : ℕ) → IsBeside v ss2 → IsObject (length v.heap) y → v.depth ≡ w.depth → To (ending (length fs)) (unwind p k false (record h { local = l } ∷ fs) v y) (unwind p' no_contracts false (Unwinding.tw p k ms g r h l ch.after ch.seam [] b' ∷ fs') (beside ss2 v) y)
+      throws v ss2 y bes there e =
           Unwinding.reach_within p k ms g r (2 * cst + lay (suc (length fs))) _ _ _ (omega arith)
           (unwinds_at p k ms g r (record h { local = l }) h.at ch.after [] ch.seam b' fs fs' v ss2 y
           (record {
             old = (z.stands).old;
             here = z.here;
+            thrown_there = there;
             belongs = ch.belongs;
             keeps = record { typed = (ch.keeps).typed; result = (ch.keeps).result; thrown = (ch.keeps).thrown; wide = (ch.keeps).wide; caps = (ch.keeps).caps };
             fits = (z.stands).fits;

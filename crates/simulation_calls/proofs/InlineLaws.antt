@@ -42,6 +42,7 @@ use Rattle.cil_semantics.specs.declared.contract_call.ContractCall.TheVariants.{
 use Rattle.cil_semantics.specs.Types.{is_empty}
 use Rattle.cil_semantics.specs.Checks.{AddedNumbers, Failure, Condition, Sequel, condition_in, dropped, check, check_inline, capture, recalled, goes_on_from}
 use Rattle.cil_semantics.specs.Machine.{recall, read_argument}
+use Rattle.splice_facts.specs.Exceptions.{IsObject}
 use Rattle.splice_facts.specs.Bodies.{with_methods}
 use Rattle.splice_facts.specs.Grown.{grow, beside}
 use Rattle.splice_facts.specs.Comes.{Comes}
@@ -179,6 +180,9 @@ module _ (p : Program) (k : Contracts) (ms : List MethodDesc) (g : AddedNumbers)
           deep = omega (arith, z.deep);
           count = omega (arith, z.count);
           heap = z.heap;
+          thrown = z.thrown;
+          back = z.back;
+          named = z.named;
         }) z.alike z.deep some
 
     pub captures_old : (n : ℕ) (i : Instr) → x.captures ≡ Some n → slice_get x.clause.instrs q ≡ Some i → contract_call p i ≡ TakesOld → To (cst + (4 * cst + lay (suc (suc (length fs))))) (capture p k c gr j n h h.local.stack fs w) (from h ex b' fs' w ss [])
@@ -344,12 +348,13 @@ module _ (p : Program) (k : Contracts) (ms : List MethodDesc) (g : AddedNumbers)
         passes : (v : World) (ss2 : List Statics) → IsBeside v ss2 → v.depth ≡ w.depth → v.heap ≡ w.heap → To (2 * cst + lay (suc (length fs))) (go_on p k h l fs v) (second.passes (beside ss2 v))
         passes v ss2 bes e same = Unwinding.reach_within p k ms g r (cst + lay (suc (length fs))) _ _ _ (omega arith) (goes_behind l ch.after v ss2 keeps bes (subst (λ d. d ≤ suc k.settings.guard) (sym e) z.deep))
 
-        throws : (v : World) (ss2 : List Statics) (y : ℕ) → IsBeside v ss2 → v.depth ≡ w.depth → To (2 * cst + lay (suc (length fs))) (unwind p k false (record h { local = l } ∷ fs) v y) (second.throws (beside ss2 v) y)
-        throws v ss2 y bes e =
+        throws : (v : World) (ss2 : List Statics) (y : ℕ) → IsBeside v ss2 → IsObject (length v.heap) y → v.depth ≡ w.depth → To (2 * cst + lay (suc (length fs))) (unwind p k false (record h { local = l } ∷ fs) v y) (second.throws (beside ss2 v) y)
+        throws v ss2 y bes there e =
             unwinds_at p k ms g r (record h { local = l }) h.at ch.after hs' ch.seam b' fs fs' v ss2 y
             (record {
               old = (z.stands).old;
               here = subst (λ o1. IsHere o1 h.at) (sym z.plan) z.here;
+              thrown_there = there;
               belongs = ch.belongs;
               keeps = keeps;
               fits = (z.stands).fits;

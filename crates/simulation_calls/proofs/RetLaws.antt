@@ -23,6 +23,7 @@ use Rattle.cil_semantics.specs.Unwind.{plan_at, begin_group, begin_piece, first_
 use Rattle.cil_semantics.specs.Frames.{if_there}
 use Rattle.cil_semantics.specs.Returns.{return_to, return_with, return_from, returns, returned, begin_invariants}
 use Rattle.cil_semantics.specs.Checks.{AddedNumbers}
+use Rattle.splice_facts.specs.Exceptions.{ObjectIf}
 use Rattle.splice_facts.specs.Bodies.{with_methods}
 use Rattle.splice_facts.specs.Grown.{beside}
 use Rattle.splice_facts.specs.Layout.{Marks, Keeps, IsHere}
@@ -69,7 +70,7 @@ module _ (p : Program) (k : Contracts) (ms : List MethodDesc) (g : AddedNumbers)
       let t = z.top in
       let a : f'.local.args ≡ f.local.args = ap (λ (y : Frame). y.local.args) (t.pair).same in
       subst (λ cs. To (cst + lay (suc (suc (length fs)))) (return_with p k f.continuation f.local.args v fs w) (return_with p' no_contracts f'.continuation cs v fs' (beside ss w))) (sym a)
-      (Returning.returns_down p k ms g r f.continuation f'.continuation f.local.args v fs fs' w ss t.under t.others z.fine_back z.heap t.alike t.deep z.outside)
+      (Returning.returns_down p k ms g r f.continuation f'.continuation f.local.args v fs fs' w ss t.under t.others z.fine_back z.back z.heap t.alike t.deep z.outside)
 
   second_returns : (f f' : Frame) (fs fs' : List Frame) (w : World) (ss : List Statics) (z : Rets.Ret p k ms g r f f' fs fs' w ss) → returns p' no_contracts f' fs' (beside ss w) ≡ if_there (returned p f f.local.stack) (beside ss w) (λ v. return_to p' no_contracts (with_local (record f'.local { result = v }) f') fs' (beside ss w))
   second_returns f f' fs fs' w ss z =
@@ -110,14 +111,14 @@ module _ (p : Program) (k : Contracts) (ms : List MethodDesc) (g : AddedNumbers)
       lifted : (v : Option Value) → returned p f f.local.stack ≡ Some v → To (5 * cst + lay (suc (suc (length fs)))) (begin_group p c group.Exit (with_local (record f.local { result = v }) f) fs w (begin_invariants p k c (with_local (record f.local { result = v }) f) fs w)) from
       lifted v s =
           let l : LocalState = record f.local { result = v } in
-          let a = (groups_of p k ms g r f.method c e ((z.top).stands).old).lifts f fs fs' w ((z.top).pair.extra) ss f'.continuation f'.handling q i v refl exits at here there is scene current s (just v s) in
+          let a = (groups_of p k ms g r f.method c e ((z.top).stands).old).lifts f fs fs' w ((z.top).pair.extra) ss f'.continuation f'.handling q i v refl z.named exits at here there is scene current s (just v s) in
           let over = begin_invariants p k c (with_local (with_stack l []) f) fs w in
           let b = group_begins p k ms g r c group.Exit f (with_stack l []) a.extra f'.continuation fs fs' w a.statics over e ((z.top).stands).old (λ d. cc d) refl (subst (λ o. Unwinding.Fits p k ms g r group.Exit o) (sym bare) tt) a.keeps a.beside (as_many p k ms g r f.continuation f'.continuation fs fs' (z.top).under) (z.top).deep (z.top).under (4 * cst + lay (suc (suc (length fs)))) (omega arith)
           (λ a1. Unwinding.reach_within p k ms g r (cst + (3 * cst + lay (suc (suc (length fs))))) _ _ _ (omega arith)
           (Unwinding.reach_by p k ms g r cst (3 * cst + lay (suc (suc (length fs)))) _ _ _ a1.comes
           (subst (λ y. To (3 * cst + lay (suc (suc (length fs)))) over (Spliced.stands p k p' g r.types r.depths f (with_stack l []) a1.extra y f'.continuation fs' w a1.statics)) (sym (groups_of p k ms g r f.method c e ((z.top).stands).old).then_invariants)
           (Returning.invariants_begin p k ms g r c f (with_stack l []) a1.extra f'.continuation fs fs' w a1.statics (exits, Rattle.splice_facts.proofs.StoreLaws.returned_stays p f f.local.stack v s) refl bare a1.beside
-          (record { plan = e; old = ((z.top).stands).old; keeps = a1.keeps; under = (z.top).under; others = (z.top).others; own = ((z.top).stands).initializes; fine_back = z.fine_back; deep = (z.top).deep; count = z.outside; heap = z.heap }))))) in
+          (record { plan = e; old = ((z.top).stands).old; keeps = a1.keeps; under = (z.top).under; others = (z.top).others; own = ((z.top).stands).initializes; fine_back = z.fine_back; deep = (z.top).deep; count = z.outside; heap = z.heap; thrown = subst (ObjectIf (length w.heap)) (sym bare) tt; back = z.back; named = z.named }))))) in
           Unwinding.reach_within p k ms g r (cst + (4 * cst + lay (suc (suc (length fs))))) _ _ _ (omega arith)
           (Unwinding.reach_by p k ms g r cst (4 * cst + lay (suc (suc (length fs)))) _ _ _ a.comes
           (subst (λ y. To (4 * cst + lay (suc (suc (length fs)))) y (Spliced.stands p k p' g r.types r.depths f (with_stack l []) a.extra ((mk f.method).door group.Exit) f'.continuation fs' w a.statics))
@@ -126,7 +127,7 @@ module _ (p : Program) (k : Contracts) (ms : List MethodDesc) (g : AddedNumbers)
       by_value : (v : Option (Option Value)) → returned p f f.local.stack ≡ v → To (5 * cst + lay (suc (suc (length fs)))) (if_there v w (λ v1. return_from p k (Some c) f.at (with_local (record f.local { result = v1 }) f) fs w)) from
       by_value None s =
           Unwinding.reach_within p k ms g r (cst + (4 * cst + lay (suc (suc (length fs))))) _ _ _ (omega arith)
-          (Unwinding.reach_by p k ms g r cst (4 * cst + lay (suc (suc (length fs)))) _ _ _ ((groups_of p k ms g r f.method c e ((z.top).stands).old).lifts_stuck f fs fs' w ((z.top).pair.extra) ss f'.continuation f'.handling q i refl exits at here there is scene current s) (Arriving.stuck_both p k ms g r _ w ss (z.top).alike))
+          (Unwinding.reach_by p k ms g r cst (4 * cst + lay (suc (suc (length fs)))) _ _ _ ((groups_of p k ms g r f.method c e ((z.top).stands).old).lifts_stuck f fs fs' w ((z.top).pair.extra) ss f'.continuation f'.handling q i refl z.named exits at here there is scene current s) (Arriving.stuck_both p k ms g r _ w ss (z.top).alike))
       by_value (Some v) s = subst (λ y. To (5 * cst + lay (suc (suc (length fs)))) (return_from p k (Some c) y (with_local (record f.local { result = v }) f) fs w) from) (sym at) (lifted v s)
 
   -- where nothing is checked at exit, `ret` returns at once in the rest too

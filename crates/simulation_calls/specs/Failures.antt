@@ -24,6 +24,8 @@ use Rattle.cil_semantics.specs.Returns.{piece_over}
 use Rattle.cil_semantics.specs.Calls.{make, pushes_new}
 use Rattle.cil_semantics.specs.Checks.{AddedNumbers, Failure, Condition, Sequel, check, goes_on_from, throw_exception, made_type, failing}
 use Rattle.splice_facts.specs.Grown.{beside}
+use Rattle.splice_facts.specs.Exceptions.{IsObject, ObjectIf, BackThere}
+use Rattle.splice_facts.specs.Input.{ReturnsAsNamed}
 use Rattle.splice_facts.specs.WellFormed.{WellFormedContinuation, WellFormedObjects}
 use Rattle.splice_facts.specs.Layout.{Keeps, IsHere}
 use Rattle.splice_facts.specs.Spliced.{Checked, StaysIn, clause_failure, from_here, twin, cost, failure_cost}
@@ -40,7 +42,7 @@ module _ (p : Program) (k : Contracts) (ms : List MethodDesc) (g : AddedNumbers)
   -- what follows a failure, in both runs, from worlds of a depth that are alike; where it is passed over, the heap is as it was
   pub record AlikeSequels (n d : ℕ) (heap : List Object) (x : Failure) (s t : Sequel) (fs fs' : List Frame) : Type 0 where
     pub passes_so : (v : World) (ss : List Statics) → BesideIn p k ms g r v ss → v.depth ≡ d → v.heap ≡ heap → ReachesIn p k ms g r n (s.passes v) (t.passes (beside ss v))
-    pub throws_so : (v : World) (ss : List Statics) (y : ℕ) → BesideIn p k ms g r v ss → v.depth ≡ d → ReachesIn p k ms g r n (s.throws v y) (t.throws (beside ss v) y)
+    pub throws_so : (v : World) (ss : List Statics) (y : ℕ) → BesideIn p k ms g r v ss → IsObject (length v.heap) y → v.depth ≡ d → ReachesIn p k ms g r n (s.throws v y) (t.throws (beside ss v) y)
     pub makes_so : MakesAlike x s t fs fs' n d
     pub stops_so : (v : World) (ss : List Statics) → BesideIn p k ms g r v ss → ReachesIn p k ms g r n (s.stops v) (t.stops (beside ss v))
 
@@ -67,6 +69,10 @@ module _ (p : Program) (k : Contracts) (ms : List MethodDesc) (g : AddedNumbers)
     pub deep : w.depth ≤ suc k.settings.guard
     pub count : w.depth ≡ 1 + count_groups fs
     pub heap : WellFormedObjects (bounds p k ms g r) w.heap
+    -- what it throws, and what its constructor's caller throws, are objects
+    pub thrown : ObjectIf (length w.heap) h.thrown
+    pub back : BackThere (length w.heap) h.continuation
+    pub named : ReturnsAsNamed p h
 
   -- the frame's twin at a new place, with no handler that runs
   abbrev pub twin_at : Frame → Local → List Cell → ℕ → Continuation → Frame

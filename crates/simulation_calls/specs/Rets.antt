@@ -18,8 +18,9 @@ use Rattle.cil_semantics.specs.Unwind.{plan_at}
 use Rattle.cil_semantics.specs.Returns.{returned, returns}
 use Rattle.cil_semantics.specs.Checks.{AddedNumbers}
 use Rattle.splice_facts.specs.Grown.{beside}
+use Rattle.splice_facts.specs.Exceptions.{BackThere}
 use Rattle.splice_facts.specs.WellFormed.{WellFormedContinuation, WellFormedObjects}
-use Rattle.splice_facts.specs.Input.{top_of}
+use Rattle.splice_facts.specs.Input.{top_of, ReturnsAsNamed}
 use Rattle.splice_facts.specs.Layout.{fetch}
 use Rattle.splice_facts.specs.Spliced.{has_exit, Current, from_here, cost}
 use Rattle.splice_facts.specs.Related.{Rewritten, written, bounds, ReachesIn, per_frame, TopPair, count_groups}
@@ -31,6 +32,8 @@ module _ (p : Program) (k : Contracts) (ms : List MethodDesc) (g : AddedNumbers)
     pub outside : w.depth ≡ count_groups fs
     pub fine_back : WellFormedContinuation (bounds p k ms g r) f.continuation
     pub heap : WellFormedObjects (bounds p k ms g r) w.heap
+    pub back : BackThere (length w.heap) f.continuation
+    pub named : ReturnsAsNamed p f
 
   -- no group comes at exit: without contracts, in the lead-in, and where nothing is checked at exit
   abbrev pub NoExit : Option Plan → ProgramPoint → Type 0

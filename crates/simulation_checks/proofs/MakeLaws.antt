@@ -34,7 +34,10 @@ use Rattle.cil_semantics.specs.Outside.{Answer, Returned, Threw, Unfit, Member, 
 use Rattle.cil_semantics.specs.Returns.{push_below, piece_over}
 use Rattle.cil_semantics.specs.Calls.{Use, CoreMember, NotCore, Constructor, Quantifier, core_of, is_core_exception, is_outside_type, is_named, are_strings, string_member, makes_delegate, delegate_cells, new_object, pushes_new, use_answer, make_core, make_own, without_this, make_outside, make}
 use Rattle.cil_semantics.specs.Types.{same_ty}
-use Rattle.cil_semantics.specs.Checks.{AddedNumbers, Failure, Condition, Sequel, check, throws_new, made_type, is_accessible, constructor_with, constructor_member, own_constructor, is_named_type, throw_outside, throw_made, after_new}
+use Rattle.cil_semantics.specs.Checks.{AddedNumbers, Failure, Condition, Sequel, check, number_of_object, throws_new, made_type, is_accessible, constructor_with, constructor_member, own_constructor, is_named_type, throw_outside, throw_made, after_new}
+use Rattle.splice_facts.specs.Exceptions.{IsObject}
+use Rattle.splice_facts.proofs.ExceptionLaws.{more_failures, longer}
+use Rattle.splice_facts.proofs.ExceptionLaws.{new_object as new_object_there}
 use Rattle.splice_facts.specs.Bodies.{with_methods}
 use Rattle.splice_facts.specs.Grown.{beside}
 use Rattle.splice_facts.specs.Layout.{Marks}
@@ -54,7 +57,7 @@ use Rattle.simulation_objects.proofs.CallLaws as Calling
 use Rattle.simulation_objects.proofs.NewLaws as Making
 use Rattle.simulation_calls.specs.Failures as Failing
 use Rattle.simulation_calls.proofs.ClauseLaws as Clausing
-use Rattle.simulation_checks.proofs.NewFrameLaws.{AnswersObject, ask_new_frames, ask_new_object, made_of_class, text_plain, bare_plain, string_plain}
+use Rattle.simulation_checks.proofs.NewFrameLaws.{AnswersObject, AnswerThere, ask_new_there, ask_new_frames, ask_new_object, made_of_class, text_plain, bare_plain, string_plain}
 
 -- ---- which constructor a clause calls
 
@@ -204,10 +207,10 @@ module _ (p : Program) (k : Contracts) (ms : List MethodDesc) (g : AddedNumbers)
     deeps : (v : World) → v.depth ≡ w.depth → v.depth ≤ suc k.settings.guard
     deeps v e = subst (λ d. d ≤ suc k.settings.guard) (sym e) z.deep
 
-    throws_so : (v : World) (ss2 : List Statics) (y : ℕ) → IsBeside v ss2 → v.depth ≡ w.depth → To N (unwind p k false (H ∷ fs) v y) (unwind p' no_contracts false (T ∷ fs') (beside ss2 v) y)
-    throws_so v ss2 y bes e =
+    throws_so : (v : World) (ss2 : List Statics) (y : ℕ) → IsBeside v ss2 → IsObject (length v.heap) y → v.depth ≡ w.depth → To N (unwind p k false (H ∷ fs) v y) (unwind p' no_contracts false (T ∷ fs') (beside ss2 v) y)
+    throws_so v ss2 y bes there e =
         Unwinding.reach_within p k ms g r (2 * cst + lay (suc (length fs))) _ _ _ (omega arith)
-        (pair_unwinds p k ms g r (ThrowObject y) (PushObject (Obj y)) ch.seam H T fs fs' refl refl pair z.here ch.belongs z.under stands (unwinds p k ms g r h.continuation b' fs fs' z.under z.others) v ss2 y bes (counts v e) (deeps v e))
+        (pair_unwinds p k ms g r (ThrowObject y) (PushObject (Obj y)) ch.seam H T fs fs' refl refl pair z.here ch.belongs z.under stands (unwinds p k ms g r h.continuation b' fs fs' z.under z.others) v ss2 y bes there (counts v e) (deeps v e))
 
     stops_so : (v : World) (ss2 : List Statics) → IsBeside v ss2 → To N (stuck v) (stuck (beside ss2 v))
     stops_so v ss2 bes = Arriving.stuck_both p k ms g r N v ss2 bes
@@ -222,34 +225,34 @@ module _ (p : Program) (k : Contracts) (ms : List MethodDesc) (g : AddedNumbers)
           record { belongs = t.belongs; in_group = t.in_group; next = record { thrower = (t.next).thrower; belongs = (t.next).belongs; throws = (t.next).throws } }
 
       -- the first run throws what was made, the other pushes it and then throws it
-      throws_made : (v : World) (ss2 : List Statics) (y : ℕ) → IsBeside v ss2 → v.depth ≡ w.depth → To N (unwind p k false (H ∷ fs) v y) (push_below p' no_contracts (Some (Obj y)) (T ∷ fs') (beside ss2 v))
-      throws_made v ss2 y bes e =
+      throws_made : (v : World) (ss2 : List Statics) (y : ℕ) → IsBeside v ss2 → IsObject (length v.heap) y → v.depth ≡ w.depth → To N (unwind p k false (H ∷ fs) v y) (push_below p' no_contracts (Some (Obj y)) (T ∷ fs') (beside ss2 v))
+      throws_made v ss2 y bes there e =
           Unwinding.reach_within p k ms g r (3 * cst + lay (suc (length fs))) _ _ _ (omega arith)
-          (Returning.makes_throw p k ms g r y ch.seam H T fs fs' v ss2 pair z.here (seam y) z.under stands z.others bes (deeps v e) (counts v e))
+          (Returning.makes_throw p k ms g r y ch.seam H T fs fs' v ss2 pair z.here (seam y) z.under stands z.others bes there (deeps v e) (counts v e))
 
       -- ---- outside
 
-      by_value : (v : World) (ss2 : List Statics) (y : Value-F Value) → IsBeside v ss2 → v.depth ≡ w.depth → To N (throw_made p g k.settings.throwing X S1 v y) (throw_made p' g k.settings.throwing X S2 (beside ss2 v) y)
-      by_value v ss2 (Value-F.Obj y) bes e = throws_so v ss2 y bes e
-      by_value v ss2 _ bes e = stops_so v ss2 bes
+      by_value : (v : World) (ss2 : List Statics) (y : Value-F Value) → ((a : ℕ) → number_of_object y ≡ Some a → IsObject (length v.heap) a) → IsBeside v ss2 → v.depth ≡ w.depth → To N (throw_made p g k.settings.throwing X S1 v y) (throw_made p' g k.settings.throwing X S2 (beside ss2 v) y)
+      by_value v ss2 (Value-F.Obj y) there bes e = throws_so v ss2 y bes (there y refl) e
+      by_value v ss2 _ there bes e = stops_so v ss2 bes
 
-      answers : (A A' : Answer) → Alike.BothAnswer p k ms g r Push Push 0 0 w.depth A A' → To N (after_new p g k.settings.throwing X S1 (with_frames (H ∷ fs) A)) (after_new p' g k.settings.throwing X S2 (with_frames fs' A'))
-      answers (Returned v gs u) (Returned v' gs' u') y =
+      answers : (A A' : Answer) → AnswerThere A → Alike.BothAnswer p k ms g r Push Push 0 0 w.depth A A' → To N (after_new p g k.settings.throwing X S1 (with_frames (H ∷ fs) A)) (after_new p' g k.settings.throwing X S2 (with_frames fs' A'))
+      answers (Returned v gs u) (Returned v' gs' u') is y =
           subst (λ a. To N (maybe (S1.stops u) (λ b. throw_made p g k.settings.throwing X S1 u (out-Value b)) v) (maybe (S2.stops u') (λ b. throw_made p' g k.settings.throwing X S2 u' (out-Value b)) a)) (sym y.0)
-          (subst (λ a. To N (maybe (S1.stops u) (λ b. throw_made p g k.settings.throwing X S1 u (out-Value b)) v) (maybe (S2.stops a) (λ b. throw_made p' g k.settings.throwing X S2 a (out-Value b)) v)) (sym (y.1).world) (by_option v))
+          (subst (λ a. To N (maybe (S1.stops u) (λ b. throw_made p g k.settings.throwing X S1 u (out-Value b)) v) (maybe (S2.stops a) (λ b. throw_made p' g k.settings.throwing X S2 a (out-Value b)) v)) (sym (y.1).world) (by_option v is))
         where
-          by_option : (a : Option Value) → To N (maybe (S1.stops u) (λ b. throw_made p g k.settings.throwing X S1 u (out-Value b)) a) (maybe (S2.stops (beside (y.1).statics u)) (λ b. throw_made p' g k.settings.throwing X S2 (beside (y.1).statics u) (out-Value b)) a)
-          by_option None = stops_so u (y.1).statics (y.1).alike
-          by_option (Some b) = by_value u (y.1).statics (out-Value b) (y.1).alike (y.1).depth
-      answers (Threw e gs u) (Threw e' gs' u') y =
-          subst (λ a. To N (S1.throws u e) (S2.throws u' a)) (sym y.0) (subst (λ a. To N (S1.throws u e) (S2.throws a e)) (sym (y.1).world) (throws_so u (y.1).statics e (y.1).alike (y.1).depth))
-      answers (Unfit u) (Unfit u') y = subst (λ a. To N (S1.stops u) (S2.stops a)) (sym y.world) (stops_so u y.statics y.alike)
-      answers (Returned v gs u) (Threw e' gs' u') y = absurd y
-      answers (Returned v gs u) (Unfit u') y = absurd y
-      answers (Threw e gs u) (Returned v' gs' u') y = absurd y
-      answers (Threw e gs u) (Unfit u') y = absurd y
-      answers (Unfit u) (Returned v' gs' u') y = absurd y
-      answers (Unfit u) (Threw e' gs' u') y = absurd y
+          by_option : (a : Option Value) → ((n : ℕ) → option_and_then (λ b. number_of_object (out-Value b)) a ≡ Some n → IsObject (length u.heap) n) → To N (maybe (S1.stops u) (λ b. throw_made p g k.settings.throwing X S1 u (out-Value b)) a) (maybe (S2.stops (beside (y.1).statics u)) (λ b. throw_made p' g k.settings.throwing X S2 (beside (y.1).statics u) (out-Value b)) a)
+          by_option None there = stops_so u (y.1).statics (y.1).alike
+          by_option (Some b) there = by_value u (y.1).statics (out-Value b) there (y.1).alike (y.1).depth
+      answers (Threw e gs u) (Threw e' gs' u') is y =
+          subst (λ a. To N (S1.throws u e) (S2.throws u' a)) (sym y.0) (subst (λ a. To N (S1.throws u e) (S2.throws a e)) (sym (y.1).world) (throws_so u (y.1).statics e (y.1).alike y.2 (y.1).depth))
+      answers (Unfit u) (Unfit u') is y = subst (λ a. To N (S1.stops u) (S2.stops a)) (sym y.world) (stops_so u y.statics y.alike)
+      answers (Returned v gs u) (Threw e' gs' u') is y = absurd y
+      answers (Returned v gs u) (Unfit u') is y = absurd y
+      answers (Threw e gs u) (Returned v' gs' u') is y = absurd y
+      answers (Threw e gs u) (Unfit u') is y = absurd y
+      answers (Unfit u) (Returned v' gs' u') is y = absurd y
+      answers (Unfit u) (Threw e' gs' u') is y = absurd y
 
       made_outside : (t : Ty) (text : Value) (v : World) (ss2 : List Statics) → IsBeside v ss2 → v.depth ≡ w.depth → To N (throw_outside p g k.settings.throwing X S1 t text (H ∷ fs) v) (throw_outside p' g k.settings.throwing X S2 t text fs' (beside ss2 v))
       made_outside t text v ss2 bes e =
@@ -265,14 +268,15 @@ module _ (p : Program) (k : Contracts) (ms : List MethodDesc) (g : AddedNumbers)
           asked =
               subst (λ a. To N (after_new p g k.settings.throwing X S1 a) (after_new p' g k.settings.throwing X S2 (ask_new p' t (constructor_member p' g t) (text ∷ []) fs' (beside ss2 v)))) (sym (ask_new_frames p t (constructor_member p g t) (text ∷ []) (H ∷ fs) v string_plain))
               (subst (λ a. To N (after_new p g k.settings.throwing X S1 (with_frames (H ∷ fs) (ask_new p t (constructor_member p g t) (text ∷ []) [] v))) (after_new p' g k.settings.throwing X S2 a)) (sym (ask_new_frames p' t (constructor_member p g t) (text ∷ []) fs' (beside ss2 v) string_plain))
-              (answers _ _ (subst (λ d. Alike.BothAnswer p k ms g r Push Push 0 0 d (ask_new p t (constructor_member p g t) (text ∷ []) [] v) (ask_new p' t (constructor_member p g t) (text ∷ []) [] (beside ss2 v))) e (asks_alone t (constructor_member p g t) (text ∷ []) v ss2 bes string_plain))))
+              (answers _ _ (ask_new_there p t (constructor_member p g t) (text ∷ []) [] v) (subst (λ d. Alike.BothAnswer p k ms g r Push Push 0 0 d (ask_new p t (constructor_member p g t) (text ∷ []) [] v) (ask_new p' t (constructor_member p g t) (text ∷ []) [] (beside ss2 v))) e (asks_alone t (constructor_member p g t) (text ∷ []) v ss2 bes string_plain))))
 
           by_tests : (a1 a2 : Bool)
               → To N (if a1 then S1.throws (with_object p (record { ty = t; cells = [] }) v) (next_object v) else if a2 then after_new p g k.settings.throwing X S1 (ask_new p t (constructor_member p g t) (text ∷ []) (H ∷ fs) v) else S1.stops v)
               (if a1 then S2.throws (with_object p' (record { ty = t; cells = [] }) (beside ss2 v)) (next_object (beside ss2 v)) else if a2 then after_new p' g k.settings.throwing X S2 (ask_new p' t (constructor_member p' g t) (text ∷ []) fs' (beside ss2 v)) else S2.stops (beside ss2 v))
           by_tests true a2 =
               subst (λ u. To N (S1.throws (with_object p (record { ty = t; cells = [] }) v) (next_object v)) (S2.throws u (next_object v))) (sym (with_object_same p ms (record { ty = t; cells = [] }) (beside ss2 v)))
-              (throws_so (with_object p (record { ty = t; cells = [] }) v) ss2 (next_object v) (record { statics = bes.statics; depth = bes.depth; bare = bes.bare }) e)
+              (throws_so (with_object p (record { ty = t; cells = [] }) v) ss2 (next_object v)
+              (record { statics = bes.statics; depth = bes.depth; bare = bes.bare; failures = more_failures (length v.heap) (length (with_object p (record { ty = t; cells = [] }) v).heap) v.statics (longer v.heap (record { ty = t; cells = [] })) bes.failures }) (new_object_there v.heap (record { ty = t; cells = [] })) e)
           by_tests false true = asked
           by_tests false false = stops_so v ss2 bes
 
@@ -282,28 +286,28 @@ module _ (p : Program) (k : Contracts) (ms : List MethodDesc) (g : AddedNumbers)
         abbrev C : Member
         C = record (member_of p t m []) { params = without_this (member_of p t m []).params }
 
-        uses : (A A' : Answer) → AnswersObject A → Alike.BothAnswer p k ms g r Push Push 0 0 w.depth A A' → To N (use_answer p k (throws_new p k) (with_frames (H ∷ fs) A)) (use_answer p' no_contracts (pushes_new p' no_contracts) (with_frames (T ∷ fs') A'))
+        uses : (A A' : Answer) → AnswersObject A → AnswerThere A → Alike.BothAnswer p k ms g r Push Push 0 0 w.depth A A' → To N (use_answer p k (throws_new p k) (with_frames (H ∷ fs) A)) (use_answer p' no_contracts (pushes_new p' no_contracts) (with_frames (T ∷ fs') A'))
         unfolding Rattle.cil_model.specs.declared.value.Value.out-Value denote.Hole.Carrier.out
-        uses (Returned a gs u) (Returned a' gs' u') is y =
+        uses (Returned a gs u) (Returned a' gs' u') is there y =
             subst (λ b. To N (maybe (stuck u) (λ v1. (throws_new p k).now v1 (H ∷ fs) u) b) (maybe (stuck u') (λ v1. push_below p' no_contracts (Some v1) (T ∷ fs') u') a')) (sym is.1)
             (subst (λ b. To N (unwind p k false (H ∷ fs) u is.0) (maybe (stuck u') (λ v1. push_below p' no_contracts (Some v1) (T ∷ fs') u') b)) (sym (y.0 ∙ is.1))
-            (subst (λ b. To N (unwind p k false (H ∷ fs) u is.0) (push_below p' no_contracts (Some (Obj is.0)) (T ∷ fs') b)) (sym (y.1).world) (throws_made u (y.1).statics is.0 (y.1).alike (y.1).depth)))
-        uses (Threw a gs u) (Threw a' gs' u') is y =
-            subst (λ b. To N (unwind p k false (H ∷ fs) u a) (unwind p' no_contracts false (T ∷ fs') u' b)) (sym y.0) (subst (λ b. To N (unwind p k false (H ∷ fs) u a) (unwind p' no_contracts false (T ∷ fs') b a)) (sym (y.1).world) (throws_so u (y.1).statics a (y.1).alike (y.1).depth))
-        uses (Unfit u) (Unfit u') is y = subst (λ b. To N (stuck u) (stuck b)) (sym y.world) (stops_so u y.statics y.alike)
-        uses (Returned a gs u) (Threw a' gs' u') is y = absurd y
-        uses (Returned a gs u) (Unfit u') is y = absurd y
-        uses (Threw a gs u) (Returned a' gs' u') is y = absurd y
-        uses (Threw a gs u) (Unfit u') is y = absurd y
-        uses (Unfit u) (Returned a' gs' u') is y = absurd y
-        uses (Unfit u) (Threw a' gs' u') is y = absurd y
+            (subst (λ b. To N (unwind p k false (H ∷ fs) u is.0) (push_below p' no_contracts (Some (Obj is.0)) (T ∷ fs') b)) (sym (y.1).world) (throws_made u (y.1).statics is.0 (y.1).alike (there is.0 (ap (option_and_then (λ b. number_of_object (out-Value b))) is.1)) (y.1).depth)))
+        uses (Threw a gs u) (Threw a' gs' u') is there y =
+            subst (λ b. To N (unwind p k false (H ∷ fs) u a) (unwind p' no_contracts false (T ∷ fs') u' b)) (sym y.0) (subst (λ b. To N (unwind p k false (H ∷ fs) u a) (unwind p' no_contracts false (T ∷ fs') b a)) (sym (y.1).world) (throws_so u (y.1).statics a (y.1).alike y.2 (y.1).depth))
+        uses (Unfit u) (Unfit u') is there y = subst (λ b. To N (stuck u) (stuck b)) (sym y.world) (stops_so u y.statics y.alike)
+        uses (Returned a gs u) (Threw a' gs' u') is there y = absurd y
+        uses (Returned a gs u) (Unfit u') is there y = absurd y
+        uses (Threw a gs u) (Returned a' gs' u') is there y = absurd y
+        uses (Threw a gs u) (Unfit u') is there y = absurd y
+        uses (Unfit u) (Returned a' gs' u') is there y = absurd y
+        uses (Unfit u) (Threw a' gs' u') is there y = absurd y
 
         by_outside : To N (make_outside p k (throws_new p k) t m values (H ∷ fs) v) (make_outside p' no_contracts (pushes_new p' no_contracts) t m values (T ∷ fs') (beside ss2 v))
         by_outside =
             subst (λ a. To N (make_outside p k (throws_new p k) t m values (H ∷ fs) v) (use_answer p' no_contracts (pushes_new p' no_contracts) (ask_new p' t (record a { params = without_this a.params }) values (T ∷ fs') (beside ss2 v)))) (sym (Calling.member_same p k ms g r t m []))
             (subst (λ a. To N (use_answer p k (throws_new p k) a) (use_answer p' no_contracts (pushes_new p' no_contracts) (ask_new p' t C values (T ∷ fs') (beside ss2 v)))) (sym (ask_new_frames p t C values (H ∷ fs) v plain))
             (subst (λ a. To N (use_answer p k (throws_new p k) (with_frames (H ∷ fs) (ask_new p t C values [] v))) (use_answer p' no_contracts (pushes_new p' no_contracts) a)) (sym (ask_new_frames p' t C values (T ∷ fs') (beside ss2 v) plain))
-            (uses _ _ (ask_new_object p t C values [] v _ (made_of_class p t d set own.reference)) (subst (λ n. Alike.BothAnswer p k ms g r Push Push 0 0 n (ask_new p t C values [] v) (ask_new p' t C values [] (beside ss2 v))) e (asks_alone t C values v ss2 bes plain)))))
+            (uses _ _ (ask_new_object p t C values [] v _ (made_of_class p t d set own.reference)) (ask_new_there p t C values [] v) (subst (λ n. Alike.BothAnswer p k ms g r Push Push 0 0 n (ask_new p t C values [] v) (ask_new p' t C values [] (beside ss2 v))) e (asks_alone t C values v ss2 bes plain)))))
 
         -- E has an initializer: it runs before, and may throw
         by_own : To N (make_own p k (throws_new p k) t m values (H ∷ fs) v) (make_own p' no_contracts (pushes_new p' no_contracts) t m values (T ∷ fs') (beside ss2 v))

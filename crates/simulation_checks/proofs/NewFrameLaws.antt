@@ -1,10 +1,10 @@
 -- A constructor outside without by-reference parameters leaves the frames as they were, and makes an object of a class.
-use Rattle.std.proofs.Common.{◌≡◌, ℕ, Bool, true, false, List, [], ◌∷◌, Option, Some, None, refl, sym, ap, ◌∙◌}
-use Rattle.std.specs.Prelude.{◌&&◌, if◌then◌else◌, map, codes}
+use Rattle.std.proofs.Common.{◌≡◌, ℕ, zero, suc, Bool, true, false, List, [], ◌∷◌, length, Option, Some, None, refl, sym, ap, ◌∙◌, subst}
+use Rattle.std.specs.Prelude.{◌&&◌, if◌then◌else◌, map, codes, option_and_then}
 use Rattle.cil_model.specs.declared.ty.Ty.{Ty, out-Ty}
 use Rattle.cil_model.specs.declared.ty.Ty as types
 use Rattle.cil_model.specs.declared.ty.Ty.TheOpen.{Ty-F}
-use Rattle.cil_model.specs.declared.value.Value.{Value, Text, Obj}
+use Rattle.cil_model.specs.declared.value.Value.{Value, out-Value, Text, Obj}
 use Rattle.cil_model.specs.declared.run.ReplyResult.{ReplyResult}
 use Rattle.cil_model.specs.declared.run.ReplyResult.TheVariants as reply
 use Rattle.cil_model.specs.declared.program.Program.{Program}
@@ -14,12 +14,16 @@ use Rattle.cil_semantics.specs.Core.{Name, class_named, string_ty}
 use Rattle.cil_semantics.specs.Lookups.{is_sub, method_of, in_set, args_of}
 use Rattle.cil_semantics.specs.declared.state.Cell.{Cell}
 use Rattle.cil_semantics.specs.declared.state.Object.{Object}
-use Rattle.cil_semantics.specs.Places.{storage, is_reference, default_cells, default_value, layout}
+use Rattle.cil_semantics.specs.Places.{storage, is_reference, default_cells, default_value, default_within, default_by_storage, field_types, layout}
+use Rattle.il_opcodes.specs.declared.class.Storage.{Storage}
+use Rattle.il_opcodes.specs.declared.class.Storage.TheVariants.{Truncated, Long, NativeInt, Reference, Address, Fields, Opaque, Anything, Void}
+use Rattle.cil_semantics.specs.Checks.{number_of_object}
+use Rattle.splice_facts.specs.Exceptions.{IsObject}
 use Rattle.cil_semantics.specs.declared.state.World.{World}
 use Rattle.cil_semantics.specs.declared.state.Frame.{Frame}
 use Rattle.cil_semantics.specs.State.{with_object, next_object}
 use Rattle.cil_semantics.specs.Frames.{stored_args, this_type}
-use Rattle.cil_semantics.specs.Outside.{referred_type, by_ref_args, stored_back, Answer, Returned, Threw, Unfit, next_reply, Member, member_of, recorded, thrown_out, MadeValue, MadeObject, is_string, made, with_made, new_result, making, ask_new}
+use Rattle.cil_semantics.specs.Outside.{referred_type, by_ref_args, stored_back, Answer, Returned, Threw, Unfit, next_reply, Member, member_of, recorded, thrown_out, Made, MadeValue, MadeObject, is_string, made, with_made, new_result, making, ask_new}
 use Rattle.cil_semantics.specs.Calls.{without_this}
 use Rattle.splice_facts.proofs.AskFrameLaws.{with_frames, thrown_frames}
 
@@ -74,6 +78,70 @@ module _ (p : Program) (t : Ty) (m : Member) where
       by_back vs (Some y) = new_object o e vs (next_reply w.replies).result (next_reply w.replies).by_ref y.0 y.1 (recorded m vs (next_reply w.replies).result (next_reply w.replies).by_ref w)
 
       by_cells : (c : Option (List Cell)) → AnswersObject (maybe (Unfit w) (λ (cells : List Cell). making p t m (map (λ (c : Cell). c.value) cells) (next_reply w.replies) w (stored_back p (by_ref_args m.params (map (λ (c : Cell). c.value) cells)) (next_reply w.replies).by_ref fs w)) c)
+      by_cells None = tt
+      by_cells (Some cells) = by_back (map (λ (c : Cell). c.value) cells) (stored_back p (by_ref_args m.params (map (λ (c : Cell). c.value) cells)) (next_reply w.replies).by_ref fs w)
+
+-- an object that is answered is there
+abbrev pub AnswerThere : Answer → Type 0
+AnswerThere (Returned v gs w) = (y : ℕ) → option_and_then (λ x. number_of_object (out-Value x)) v ≡ Some y → IsObject (length w.heap) y
+AnswerThere (Threw y gs w) = Unit {0}
+AnswerThere (Unfit w) = Unit {0}
+
+no_default : (n : ℕ) (p : Program) (t : Ty) → number_of_object (out-Value (default_within n p t)) ≡ None
+unfolding default_within Rattle.cil_model.specs.declared.value.Value.out-Value denote.Hole.Carrier.out
+no_default zero p t = refl
+no_default (suc n) p t = by_storage (storage p t)
+  where
+    by_storage : (h : Storage) → number_of_object (out-Value (default_by_storage (default_within n p) (field_types p t) h)) ≡ None
+    by_storage (Truncated b s) = refl
+    by_storage Long = refl
+    by_storage NativeInt = refl
+    by_storage Reference = refl
+    by_storage Address = refl
+    by_storage (Fields ts) = refl
+    by_storage Opaque = refl
+    by_storage Anything = refl
+    by_storage Void = refl
+
+module _ (p : Program) (t : Ty) (m : Member) where
+  abbrev IsMadeThere : Made → Type 0
+  IsMadeThere x = (w : World) (y : ℕ) → number_of_object (out-Value (with_made p x w).0) ≡ Some y → IsObject (length (with_made p x w).1.heap) y
+
+  made_object : (o : Object) → IsMadeThere (MadeObject o)
+  unfolding Rattle.cil_model.specs.declared.value.Value.out-Value denote.Hole.Carrier.out
+  made_object o w y e = let q : next_object w ≡ y = cc e in subst (IsObject (length (with_object p o w).heap)) q (Rattle.splice_facts.proofs.ExceptionLaws.new_object w.heap o)
+
+  made_there : IsMadeThere (made p t)
+  unfolding made Rattle.cil_model.specs.declared.value.Value.out-Value denote.Hole.Carrier.out
+  made_there = by_tests (is_string (out-Ty t)) (is_reference (storage p t))
+    where
+      by_tests : (a b : Bool) → IsMadeThere (if a then MadeValue (Text []) else if b then MadeObject (record { ty = t; cells = default_cells p (map (λ (x : ℕ × Ty). x.1) (layout p t)) }) else MadeValue (default_value p t))
+      by_tests true b w y e = absurd (cc e)
+      by_tests false true w y e = made_object (record { ty = t; cells = default_cells p (map (λ (x : ℕ × Ty). x.1) (layout p t)) }) w y e
+      by_tests false false w y e = let z : None ≡ Some y = sym (no_default 1001 p t) ∙ e in absurd (cc z)
+
+  thrown_there : (name : Name) (fs : List Frame) (w u : World) → AnswerThere (thrown_out p name fs w (Unfit u))
+  thrown_there name fs w u = by_test (is_sub p (class_named name) (class_named (codes "System.Exception")))
+    where
+      by_test : (b : Bool) → AnswerThere (if b then Threw (next_object w) fs (with_object p (record { ty = class_named name; cells = [] }) w) else Unfit u)
+      by_test true = tt
+      by_test false = tt
+
+  new_there : (vs : List Value) (x : ReplyResult) (back : List Value) (fs : List Frame) (w u : World) → AnswerThere (new_result p t m vs x back fs w (Unfit u))
+  new_there vs reply.Default back fs w u = λ y e. made_there w y e
+  new_there vs reply.Void back fs w u = λ y e. made_there w y e
+  new_there vs (reply.Given v) back fs w u = tt
+  new_there vs (reply.Throw name) back fs w u = thrown_there name fs (recorded m vs (reply.Throw name) back w) u
+
+  pub ask_new_there : (values : List Value) (fs : List Frame) (w : World) → AnswerThere (ask_new p t m values fs w)
+  unfolding ask_new
+  ask_new_there values fs w = by_cells (stored_args p m.params values)
+    where
+      by_back : (vs : List Value) (y : Option (List Frame × World)) → AnswerThere (making p t m vs (next_reply w.replies) w y)
+      by_back vs None = tt
+      by_back vs (Some y) = new_there vs (next_reply w.replies).result (next_reply w.replies).by_ref y.0 y.1 (recorded m vs (next_reply w.replies).result (next_reply w.replies).by_ref w)
+
+      by_cells : (c : Option (List Cell)) → AnswerThere (maybe (Unfit w) (λ (cells : List Cell). making p t m (map (λ (c : Cell). c.value) cells) (next_reply w.replies) w (stored_back p (by_ref_args m.params (map (λ (c : Cell). c.value) cells)) (next_reply w.replies).by_ref fs w)) c)
       by_cells None = tt
       by_cells (Some cells) = by_back (map (λ (c : Cell). c.value) cells) (stored_back p (by_ref_args m.params (map (λ (c : Cell). c.value) cells)) (next_reply w.replies).by_ref fs w)
 

@@ -31,6 +31,7 @@ use Rattle.cil_semantics.specs.declared.state.Remaining.TheVariants.{Range, Elem
 use Rattle.cil_semantics.specs.Returns.{push_below, try_next}
 use Rattle.cil_semantics.specs.Calls.{is_event, CoreMember, Constructor, Equality, Concatenation, TextLength, IsNullOrEmpty, Quantifier, NotCore, is_core_exception, is_named, is_outside_type, are_strings, string_member, core_of, string_answer, number_in, array_in, count_units, texted, Texted, NullText, SomeText, NotText, first_texted, on_answer, with_default, outside_call, plain_call, call_core, call_member, quantify}
 use Rattle.cil_semantics.specs.Checks.{AddedNumbers}
+use Rattle.splice_facts.proofs.ExceptionLaws.{more_failures, longer, new_object}
 use Rattle.splice_facts.specs.Bodies.{with_methods}
 use Rattle.splice_facts.specs.Grown.{beside}
 use Rattle.machine_laws.specs.Answers.{is_below}
@@ -136,7 +137,7 @@ module _ (p : Program) (k : Contracts) (ms : List MethodDesc) (g : AddedNumbers)
       subst (λ y. To (2 * cst + lay n) (unwind p k false gs w x) (unwind p' no_contracts false gs' w' y)) (sym z.0)
       (subst (λ y. To (2 * cst + lay n) (unwind p k false gs w x) (unwind p' no_contracts false gs' y x)) (sym b.world)
       (subst (λ y. To (2 * cst + lay y) (unwind p k false gs w x) (unwind p' no_contracts false gs' (beside b.statics w) x)) b.many
-      (unwinds p k ms g r Push Push gs gs' b.under b.others w b.statics x b.alike (b.depth ∙ count ∙ sym b.groups) (subst (λ d1. d1 ≤ suc k.settings.guard) (sym b.depth) deep))))
+      (unwinds p k ms g r Push Push gs gs' b.under b.others w b.statics x b.alike z.2 (b.depth ∙ count ∙ sym b.groups) (subst (λ d1. d1 ≤ suc k.settings.guard) (sym b.depth) deep))))
   on_answers n c d (Unfit w) (Unfit w') deep count z = subst (λ y. To (2 * cst + lay n) (stuck w) (stuck y)) (sym z.world) (Arriving.stuck_both p k ms g r (2 * cst + lay n) w z.statics z.alike)
   on_answers n c d (Returned v gs w) (Threw x' gs' w') deep count z = absurd z
   on_answers n c d (Returned v gs w) (Unfit w') deep count z = absurd z
@@ -178,7 +179,9 @@ module _ (p : Program) (k : Contracts) (ms : List MethodDesc) (g : AddedNumbers)
   unfolding storage
   raises_here name fs fs' w ss z =
       Unwinding.reach_within p k ms g r (2 * cst + lay (length fs)) _ _ _ (omega arith)
-      (unwinds p k ms g r Push Push fs fs' z.under z.others (state.with_object p (record { ty = class_named name; cells = [] }) w) ss (state.next_object w) (record { statics = (z.alike).statics; depth = (z.alike).depth; bare = (z.alike).bare }) z.count z.deep)
+      (unwinds p k ms g r Push Push fs fs' z.under z.others (state.with_object p (record { ty = class_named name; cells = [] }) w) ss (state.next_object w) 
+      (record { statics = (z.alike).statics; depth = (z.alike).depth; bare = (z.alike).bare; failures = more_failures (length w.heap) (length (state.with_object p (record { ty = class_named name; cells = [] }) w).heap) w.statics (longer w.heap (record { ty = class_named name; cells = [] })) (z.alike).failures })
+      (new_object w.heap (record { ty = class_named name; cells = [] })) z.count z.deep)
 
   counts_so : (t : Texted) (fs fs' : List Frame) (w : World) (ss : List Statics) → Sites.CallSite p k ms g r fs fs' w ss → To (big (length fs)) (count_units p k t fs w) (count_units p' no_contracts t fs' (beside ss w))
   counts_so NullText fs fs' w ss z = raises_here (codes "System.NullReferenceException") fs fs' w ss z

@@ -26,6 +26,7 @@ use Rattle.cil_semantics.specs.Outside.{Answer, Returned, Threw, Unfit, Member, 
 use Rattle.cil_semantics.specs.Returns.{push_below}
 use Rattle.cil_semantics.specs.Calls.{CoreMember, Constructor, core_of, may_be_delegate, is_function, makes_delegate, delegate_cells, new_object, pushes_new, use_answer, make_core, make_own, without_this, make_outside, make}
 use Rattle.cil_semantics.specs.Checks.{AddedNumbers, throws_new}
+use Rattle.splice_facts.proofs.ExceptionLaws.{more_failures, longer}
 use Rattle.splice_facts.specs.Bodies.{with_methods}
 use Rattle.splice_facts.specs.Grown.{beside}
 use Rattle.machine_laws.specs.Answers.{is_below}
@@ -68,7 +69,7 @@ module _ (p : Program) (k : Contracts) (ms : List MethodDesc) (g : AddedNumbers)
   Site fs fs' w ss = Sites.CallSite p k ms g r fs fs' w ss
 
   one_more : (o : Object) (w : World) (ss : List Statics) → IsBeside w ss → IsBeside (with_object p o w) ss
-  one_more o w ss bes = record { statics = bes.statics; depth = bes.depth; bare = bes.bare }
+  one_more o w ss bes = record { statics = bes.statics; depth = bes.depth; bare = bes.bare; failures = more_failures (length w.heap) (length (with_object p o w).heap) w.statics (longer w.heap o) bes.failures }
 
   -- ---- at once: a delegate, and a core object
 
@@ -107,7 +108,7 @@ module _ (p : Program) (k : Contracts) (ms : List MethodDesc) (g : AddedNumbers)
       subst (λ y. To (2 * cst + lay n) (unwind p k false gs w x) (unwind p' no_contracts false gs' w' y)) (sym z.0)
       (subst (λ y. To (2 * cst + lay n) (unwind p k false gs w x) (unwind p' no_contracts false gs' y x)) (sym b.world)
       (subst (λ y. To (2 * cst + lay y) (unwind p k false gs w x) (unwind p' no_contracts false gs' (beside b.statics w) x)) b.many
-      (unwinds p k ms g r Push Push gs gs' b.under b.others w b.statics x b.alike (b.depth ∙ count ∙ sym b.groups) (subst (λ d1. d1 ≤ suc k.settings.guard) (sym b.depth) deep))))
+      (unwinds p k ms g r Push Push gs gs' b.under b.others w b.statics x b.alike z.2 (b.depth ∙ count ∙ sym b.groups) (subst (λ d1. d1 ≤ suc k.settings.guard) (sym b.depth) deep))))
   uses_answer n c d (Unfit w) (Unfit w') deep count z = subst (λ y. To (2 * cst + lay n) (stuck w) (stuck y)) (sym z.world) (Arriving.stuck_both p k ms g r (2 * cst + lay n) w z.statics z.alike)
   uses_answer n c d (Returned v gs w) (Threw x' gs' w') deep count z = absurd z
   uses_answer n c d (Returned v gs w) (Unfit w') deep count z = absurd z

@@ -27,6 +27,7 @@ use Rattle.cil_semantics.specs.Outside.{is_outside}
 use Rattle.cil_semantics.specs.Returns.{push_below}
 use Rattle.cil_semantics.specs.Calls.{CoreMember, Constructor, Equality, Concatenation, TextLength, IsNullOrEmpty, Quantifier, NotCore, core_of, outside_call, plain_call, call_core, body_seen, own_body, call_unfound, call_found, is_invoke, may_be_delegate, is_delegate_at, call_on, pointed, call_boxed, call_struct, call_constrained, call_virtual_on, call_virtual, function_of, find_virtual_on}
 use Rattle.cil_semantics.specs.Checks.{AddedNumbers}
+use Rattle.splice_facts.proofs.ExceptionLaws.{more_failures, longer}
 use Rattle.splice_facts.specs.Bodies.{with_methods}
 use Rattle.splice_facts.specs.Grown.{beside}
 use Rattle.machine_laws.specs.Answers.{is_below}
@@ -158,7 +159,7 @@ module _ (p : Program) (k : Contracts) (ms : List MethodDesc) (g : AddedNumbers)
       by_cell (Some cell) b =
           subst (λ u. To (big (length fs)) (call_on p k (record c { values = Obj (next_object w) ∷ values }) (Obj (next_object w)) values fs (with_object p (record { ty = t; cells = cell ∷ [] }) w)) (call_on p' no_contracts (record c { values = Obj (next_object w) ∷ values }) (Obj (next_object w)) values fs' u)) (sym (with_object_same p ms (record { ty = t; cells = cell ∷ [] }) (beside ss w)))
           (calls_on (record c { values = Obj (next_object w) ∷ values }) (Obj (next_object w)) values fs fs' (with_object p (record { ty = t; cells = cell ∷ [] }) w) ss old (tt, fv) tt fv
-          (record { under = z.under; others = z.others; alike = record { statics = (z.alike).statics; depth = (z.alike).depth; bare = (z.alike).bare }; deep = z.deep; count = z.count; heap = one_more w t cell z.heap (b cell refl) }))
+          (record { under = z.under; others = z.others; alike = record { statics = (z.alike).statics; depth = (z.alike).depth; bare = (z.alike).bare; failures = more_failures (length w.heap) (length (with_object p (record { ty = t; cells = cell ∷ [] }) w).heap) w.statics (longer w.heap (record { ty = t; cells = cell ∷ [] })) (z.alike).failures }; deep = z.deep; count = z.count; heap = one_more w t cell z.heap (b cell refl) }))
 
   own_old : (t : Ty) (s x : Seen) → Old s.0 s.1 → own_body p t s ≡ Some x → Old x.0 x.1
   own_old t s x old e = by_seen (body_seen p t s) refl e

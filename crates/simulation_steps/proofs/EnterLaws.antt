@@ -24,7 +24,8 @@ use Rattle.cil_semantics.specs.declared.state.Frame.{Frame}
 use Rattle.cil_semantics.specs.State.{Next}
 use Rattle.cil_semantics.specs.declared.state.Continuation.{Continuation}
 use Rattle.cil_semantics.specs.declared.state.Continuation.TheVariants.{BeginCallee, PushStruct}
-use Rattle.cil_semantics.specs.declared.state.Init.TheVariants.{Begun}
+use Rattle.cil_semantics.specs.declared.state.Init.{Init}
+use Rattle.cil_semantics.specs.declared.state.Init.TheVariants.{Begun, Failed}
 use Rattle.cil_semantics.specs.Contracted.{Plan, locals_of}
 use Rattle.cil_semantics.specs.Unwind.{body_of, plan_at, moved_to, goes_at, hasnt_begun, find_statics, set_statics, unwind}
 use Rattle.cil_semantics.specs.Frames.{if_there, static_cells, initializer, Initializer, Ready, FailedWith, ToRun, initializer_state, is_initializer, with_begun, this_type, param_types, stored_args, clause_tys, captured_tys, first_place, frame_with, begin, initializer_frame, begin_behind, is_use, begin_use, enter, enter_struct}
@@ -39,6 +40,8 @@ use Rattle.simulation.proofs.ProgramLaws.{fun_ext, storage_same, default_cell_sa
 use Rattle.splice_facts.proofs.ComesLaws.{no_plan, arrives_plain}
 use Rattle.simulation.proofs.ArriveLaws as Arriving
 use Rattle.simulation.proofs.UnwindLaws as Unwinding
+use Rattle.splice_facts.specs.Exceptions.{IsObject, FailureThere}
+use Rattle.splice_facts.proofs.ExceptionLaws.{found_failure}
 use Rattle.simulation.proofs.UnwindLaws.{as_many, unwinds, find_beside, set_beside}
 use Rattle.simulation_steps.proofs.PointerLaws as Pointing
 
@@ -226,21 +229,47 @@ module _ (p : Program) (k : Contracts) (ms : List MethodDesc) (g : AddedNumbers)
   pub begun_beside : (t : Ty) (w : World) (ss : List Statics) → IsTrue (is_below r.types t) → IsBeside w ss → IsBeside (with_begun p t w) (set_statics (same_ty t) (record { owner = t; init = Some Begun; cells = static_cells p' (beside ss w) t }) ss)
   begun_beside t w ss a bes =
       set_beside p k ms g r t (record { owner = t; init = Some Begun; cells = static_cells p w t }) (record { owner = t; init = Some Begun; cells = static_cells p' (beside ss w) t }) w ss
-      (ap (λ cs. as_statics cs) (Pointing.static_cells_same p k ms g r w ss t a bes)) a a bes
+      (ap (λ cs. as_statics cs) (Pointing.static_cells_same p k ms g r w ss t a bes)) a a tt bes
     where
       as_statics : List Cell → Statics
       as_statics cs = record { owner = t; init = Some Begun; cells = cs }
 
+  -- what a failed initializer left is an object
+  abbrev pub FailedIf : Initializer → World → Type 0
+  FailedIf Ready w = Unit {0}
+  FailedIf (FailedWith x) w = IsObject (length w.heap) x
+  FailedIf (ToRun m) w = Unit {0}
+
+  pub failed_there : (t : Ty) (w : World) (ss : List Statics) → IsBeside w ss → FailedIf (initializer p w t) w
+  unfolding initializer
+  failed_there t w ss bes = by_statics (find_statics t w.statics) (λ s e. found_failure (length w.heap) t w.statics s bes.failures e)
+    where
+      found : Option ℕ
+      found = find (λ m. is_initializer (method_of p m) && not (type_of p (method_of p m).owner).reference) (methods_of p t)
+
+      by_method : (o : Option ℕ) → FailedIf (initializer_state None o) w
+      by_method None = tt
+      by_method (Some m) = tt
+
+      by_init : (i : Option Init) → FailureThere (length w.heap) i → FailedIf (initializer_state i found) w
+      by_init None h = by_method found
+      by_init (Some Begun) h = tt
+      by_init (Some (Failed x)) h = h
+
+      by_statics : (o : Option Statics) → ((s : Statics) → o ≡ Some s → FailureThere (length w.heap) s.init) → FailedIf (initializer_state (option_and_then (λ (s : Statics). s.init) o) found) w
+      by_statics None h = by_method found
+      by_statics (Some s) h = by_init s.init (h s refl)
+
   -- a frame begins, behind its type's initializer
-  pub begins_by : (i : Initializer) (t : Ty) (h h' : Frame) (fs fs' : List Frame) (w : World) (ss : List Statics) → FramePair p k ms g r 0 h fs h' → h.at ≡ first_place (plan_at k p h.method) → Pairs.Standing p k ms g r h fs → below h.continuation h'.continuation fs fs' → hasnt_begun h.continuation ≡ false → hasnt_begun h'.continuation ≡ false → valid fs → IsTrue (is_below r.types t) → IsBeside w ss → w.depth ≤ suc k.settings.guard → w.depth ≡ count_groups fs → ((m : ℕ) → i ≡ ToRun m → m < r.methods)
+  pub begins_by : (i : Initializer) (t : Ty) (h h' : Frame) (fs fs' : List Frame) (w : World) (ss : List Statics) → FramePair p k ms g r 0 h fs h' → h.at ≡ first_place (plan_at k p h.method) → Pairs.Standing p k ms g r h fs → below h.continuation h'.continuation fs fs' → hasnt_begun h.continuation ≡ false → hasnt_begun h'.continuation ≡ false → valid fs → IsTrue (is_below r.types t) → IsBeside w ss → w.depth ≤ suc k.settings.guard → w.depth ≡ count_groups fs → ((m : ℕ) → i ≡ ToRun m → m < r.methods) → FailedIf i w
       → To (cst + lay (suc (suc (length fs)))) (begin_behind p k i t h fs w) (begin_behind p' no_contracts i t h' fs' (beside ss w))
-  begins_by Ready t h h' fs fs' w ss pair first st under nb nb' ok a bes deep count own = Unwinding.reach_within p k ms g r (cst + lay (suc (length fs))) _ _ _ (omega arith) (begins_so h h' fs fs' w ss pair first st under bes deep)
-  begins_by (FailedWith x) t h h' fs fs' w ss pair first st under nb nb' ok a bes deep count own =
-      let d = unwinds p k ms g r h.continuation h'.continuation fs fs' under ok w ss x bes count deep in
+  begins_by Ready t h h' fs fs' w ss pair first st under nb nb' ok a bes deep count own failed = Unwinding.reach_within p k ms g r (cst + lay (suc (length fs))) _ _ _ (omega arith) (begins_so h h' fs fs' w ss pair first st under bes deep)
+  begins_by (FailedWith x) t h h' fs fs' w ss pair first st under nb nb' ok a bes deep count own failed =
+      let d = unwinds p k ms g r h.continuation h'.continuation fs fs' under ok w ss x bes failed count deep in
       let d1 = subst (λ z. To (2 * cst + lay (length fs)) (unwind p k z fs w x) (unwind p' no_contracts (hasnt_begun h'.continuation) fs' (beside ss w) x)) nb d in
       let d2 = subst (λ z. To (2 * cst + lay (length fs)) (unwind p k false fs w x) (unwind p' no_contracts z fs' (beside ss w) x)) nb' d1 in
       Unwinding.reach_within p k ms g r (2 * cst + lay (length fs)) _ _ _ (omega arith) d2
-  begins_by (ToRun m) t h h' fs fs' w ss pair first st under nb nb' ok a bes deep count own =
+  begins_by (ToRun m) t h h' fs fs' w ss pair first st under nb nb' ok a bes deep count own failed =
       let old = own m refl in
       let top : below BeginCallee BeginCallee (h ∷ fs) (h' ∷ fs') = Under.begins h h' fs fs' pair first nb nb' under in
       let many = ap suc (as_many p k ms g r h.continuation h'.continuation fs fs' under) in
@@ -264,7 +293,7 @@ module _ (p : Program) (k : Contracts) (ms : List MethodDesc) (g : AddedNumbers)
       (by_use (is_use (method_of p h.method))))
     where
       by_use : (b : Bool) → To (cst + lay (suc (suc (length fs)))) (if b then begin_behind p k (initializer p w t) t h fs w else begin p k h fs w) (if b then begin_behind p' no_contracts (initializer p w t) t h' fs' (beside ss w) else begin p' no_contracts h' fs' (beside ss w))
-      by_use true = begins_by (initializer p w t) t h h' fs fs' w ss pair first st under nb nb' ok a bes deep count (λ m e. r.owned t w m a e)
+      by_use true = begins_by (initializer p w t) t h h' fs fs' w ss pair first st under nb nb' ok a bes deep count (λ m e. r.owned t w m a e) (failed_there t w ss bes)
       by_use false = Unwinding.reach_within p k ms g r (cst + lay (suc (length fs))) _ _ _ (omega arith) (begins_so h h' fs fs' w ss pair first st under bes deep)
 
   -- a method with a body is called

@@ -35,6 +35,7 @@ use Rattle.splice_facts.specs.Related.{Rewritten, Under}
 use Rattle.splice_facts.specs.Related as Pairs
 use Rattle.simulation_steps.specs.Outside as Alike
 use Rattle.simulation_steps.specs.Steps as Steps
+use Rattle.splice_facts.proofs.ExceptionLaws.{more_failures, longer, new_object}
 use Rattle.simulation.proofs.ProgramLaws.{fun_ext, storage_same, default_same, default_cells_same, layout_same, stored_in_same, field_types_same, sub_same, with_object_same}
 use Rattle.simulation.proofs.UnwindLaws as Unwinding
 use Rattle.simulation_steps.proofs.PointerLaws as Pointing
@@ -108,13 +109,16 @@ module _ (p : Program) (k : Contracts) (ms : List MethodDesc) (g : AddedNumbers)
       by_pointer None h = tt
       by_pointer (Some q) h = subst (λ m. Alike.BothIf p k ms g r b b' m c d (write p fs w q v) (write p' fs' (beside z.statics w) q v)) z.many (subst (λ m. Alike.BothIf p k ms g r b b' (length fs) m d (write p fs w q v) (write p' fs' (beside z.statics w) q v)) z.groups (from_stored b b' (length fs) (Pairs.count_groups fs) d w _ _ z.depth (Pointing.writes p k ms g r b b' fs fs' w z.statics q v (h q refl) z.under z.others z.alike)))
 
+  more_beside : (o : Rattle.cil_semantics.specs.declared.state.Object.Object) (w : World) (ss : List Statics) → IsBeside w ss → IsBeside (Rattle.cil_semantics.specs.State.with_object p o w) ss
+  more_beside o w ss bes = record { statics = bes.statics; depth = bes.depth; bare = bes.bare; failures = more_failures (length w.heap) (length (Rattle.cil_semantics.specs.State.with_object p o w).heap) w.statics (longer w.heap o) bes.failures }
+
   -- a world that tells a call, or has a new object
   both_told : (b b' : Continuation) (n c d : ℕ) (gs gs' : List Frame) (w w' : World) (m : Member) (vs : List Value) (x : ReplyResult) (back : List Value) → Alike.Both p k ms g r b b' n c d gs gs' w w' → Alike.Both p k ms g r b b' n c d gs gs' (recorded m vs x back w) (recorded m vs x back w')
   both_told b b' n c d gs gs' w w' m vs x back z =
-      record { under = z.under; others = z.others; many = z.many; groups = z.groups; statics = z.statics; alike = record { statics = (z.alike).statics; depth = (z.alike).depth; bare = (z.alike).bare }; world = ap (recorded m vs x back) z.world; depth = z.depth }
+      record { under = z.under; others = z.others; many = z.many; groups = z.groups; statics = z.statics; alike = record { statics = (z.alike).statics; depth = (z.alike).depth; bare = (z.alike).bare; failures = (z.alike).failures }; world = ap (recorded m vs x back) z.world; depth = z.depth }
 
   worlds_told : (d : ℕ) (w w' : World) (m : Member) (vs : List Value) (x : ReplyResult) (back : List Value) → Alike.BothWorlds p k ms g r d w w' → Alike.BothWorlds p k ms g r d (recorded m vs x back w) (recorded m vs x back w')
-  worlds_told d w w' m vs x back z = record { statics = z.statics; alike = record { statics = (z.alike).statics; depth = (z.alike).depth; bare = (z.alike).bare }; world = ap (recorded m vs x back) z.world; depth = z.depth }
+  worlds_told d w w' m vs x back z = record { statics = z.statics; alike = record { statics = (z.alike).statics; depth = (z.alike).depth; bare = (z.alike).bare; failures = (z.alike).failures }; world = ap (recorded m vs x back) z.world; depth = z.depth }
 
   thrown_both : (b b' : Continuation) (n c d : ℕ) (gs gs' : List Frame) (w w' : World) (name : Name) (other other' : Answer) → Alike.BothAnswer p k ms g r b b' n c d other other' → Alike.Both p k ms g r b b' n c d gs gs' w w' → Alike.BothAnswer p k ms g r b b' n c d (thrown_out p name gs w other) (thrown_out p' name gs' w' other')
   thrown_both b b' n c d gs gs' w w' name other other' zo z =
@@ -125,7 +129,7 @@ module _ (p : Program) (k : Contracts) (ms : List MethodDesc) (g : AddedNumbers)
       thrown q hs u = Threw (Rattle.cil_semantics.specs.State.next_object u) hs (Rattle.cil_semantics.specs.State.with_object q (record { ty = class_named name; cells = [] }) u)
 
       by_test : (t : Bool) → Alike.BothAnswer p k ms g r b b' n c d (if t then thrown p gs w else other) (if t then thrown p' gs' (beside z.statics w) else other')
-      by_test true = (refl, record { under = z.under; others = z.others; many = z.many; groups = z.groups; statics = z.statics; alike = record { statics = (z.alike).statics; depth = (z.alike).depth; bare = (z.alike).bare }; world = with_object_same p ms (record { ty = class_named name; cells = [] }) (beside z.statics w); depth = z.depth })
+      by_test true = (refl, record { under = z.under; others = z.others; many = z.many; groups = z.groups; statics = z.statics; alike = more_beside (record { ty = class_named name; cells = [] }) w z.statics z.alike; world = with_object_same p ms (record { ty = class_named name; cells = [] }) (beside z.statics w); depth = z.depth }, new_object w.heap (record { ty = class_named name; cells = [] }))
       by_test false = zo
 
   results : (b b' : Continuation) (n c d : ℕ) (gs gs' : List Frame) (w w' : World) (m : Member) (vs : List Value) (x : ReplyResult) (back : List Value) (other other' : Answer) → Alike.BothAnswer p k ms g r b b' n c d other other' → Alike.Both p k ms g r b b' n c d gs gs' w w' → Alike.BothAnswer p k ms g r b b' n c d (result_of p m vs x back gs w other) (result_of p' m vs x back gs' w' other')
@@ -203,7 +207,7 @@ module _ (p : Program) (k : Contracts) (ms : List MethodDesc) (g : AddedNumbers)
       by_made : (x : Made) → Alike.BothAnswer p k ms g r b b' n c d (made_answer p m vs back reply gs (with_made p x w)) (made_answer p' m vs back reply gs' (with_made p' x (beside z.statics w)))
       by_made (MadeValue v) = (refl, told w (beside z.statics w) v z.alike refl z.depth)
       by_made (MadeObject o) =
-          (refl, told (Rattle.cil_semantics.specs.State.with_object p o w) (Rattle.cil_semantics.specs.State.with_object p' o (beside z.statics w)) (Rattle.cil_model.specs.declared.value.Value.Obj (Rattle.cil_semantics.specs.State.next_object w)) (record { statics = (z.alike).statics; depth = (z.alike).depth; bare = (z.alike).bare }) (with_object_same p ms o (beside z.statics w)) z.depth)
+          (refl, told (Rattle.cil_semantics.specs.State.with_object p o w) (Rattle.cil_semantics.specs.State.with_object p' o (beside z.statics w)) (Rattle.cil_model.specs.declared.value.Value.Obj (Rattle.cil_semantics.specs.State.next_object w)) (more_beside o w z.statics z.alike) (with_object_same p ms o (beside z.statics w)) z.depth)
 
   new_results : (b b' : Continuation) (n c d : ℕ) (gs gs' : List Frame) (w w' : World) (t : Ty) (m : Member) (vs : List Value) (x : ReplyResult) (back : List Value) (other other' : Answer) → Alike.BothAnswer p k ms g r b b' n c d other other' → Alike.Both p k ms g r b b' n c d gs gs' w w' → Alike.BothAnswer p k ms g r b b' n c d (new_result p t m vs x back gs w other) (new_result p' t m vs x back gs' w' other')
   unfolding made_answer

@@ -43,6 +43,8 @@ use Rattle.splice_facts.specs.Related as Pairs
 use Rattle.simulation_steps.specs.Steps as Steps
 use Rattle.splice_facts.proofs.ComesLaws.{arrives_plain}
 use Rattle.simulation.proofs.ArriveLaws as Arriving
+use Rattle.splice_facts.specs.Exceptions.{IsObject, ObjectIf, CauseThere, CausesThere}
+use Rattle.splice_facts.proofs.ExceptionLaws.{more_failures, longer, new_object, caught_there}
 use Rattle.simulation.proofs.UnwindLaws as Unwinding
 use Rattle.simulation.proofs.UnwindLaws.{as_many, begun, unwinds}
 use Rattle.simulation.proofs.PushLaws as Pushing
@@ -170,16 +172,16 @@ module _ (p : Program) (k : Contracts) (ms : List MethodDesc) (g : AddedNumbers)
       (subst (λ z. To (cst + lay (suc (length fs))) (arrive p k h (moved_to u f.at) l fs w) z) (stale_arrive p' (plan_at no_contracts p' f'.method) f' (Rest q) (grow (t.pair.extra) l) (grow (t.pair.extra) l) f'.handling fs' (beside ss w)) a))
 
   -- an exception, in the topmost frame and then down
-  pub throws : (f f' : Frame) (fs fs' : List Frame) (w : World) (ss : List Statics) (x : ℕ) (t : Top f f' fs fs' w ss) → To (2 * cst + lay (suc (length fs))) (unwind p k false (f ∷ fs) w x) (unwind p' no_contracts false (f' ∷ fs') (beside ss w) x)
-  throws f f' fs fs' w ss x t =
-      Unwinding.pair_unwinds p k ms g r Push Push ((mk f.method).places f.at) f f' fs fs' refl refl t.pair t.here ((r.bodies f.method (t.stands).old).own f.at t.here) t.under t.stands (unwinds p k ms g r f.continuation f'.continuation fs fs' t.under t.others) w ss x t.alike t.count t.deep
+  pub throws : (f f' : Frame) (fs fs' : List Frame) (w : World) (ss : List Statics) (x : ℕ) (t : Top f f' fs fs' w ss) → IsObject (length w.heap) x → To (2 * cst + lay (suc (length fs))) (unwind p k false (f ∷ fs) w x) (unwind p' no_contracts false (f' ∷ fs') (beside ss w) x)
+  throws f f' fs fs' w ss x t there =
+      Unwinding.pair_unwinds p k ms g r Push Push ((mk f.method).places f.at) f f' fs fs' refl refl t.pair t.here ((r.bodies f.method (t.stands).old).own f.at t.here) t.under t.stands (unwinds p k ms g r f.continuation f'.continuation fs fs' t.under t.others) w ss x t.alike there t.count t.deep
 
   abbrev rows : ℕ → ℕ
   rows m = length (body_of p m).regions
 
   -- the same with a new object
   pub with_new : (f f' : Frame) (fs fs' : List Frame) (w : World) (ss : List Statics) (o : Object) → Top f f' fs fs' w ss → Top f f' fs fs' (with_object p o w) ss
-  with_new f f' fs fs' w ss o t = record { pair = t.pair; here = t.here; under = t.under; stands = t.stands; others = t.others; alike = record { statics = (t.alike).statics; depth = (t.alike).depth; bare = (t.alike).bare }; deep = t.deep; count = t.count }
+  with_new f f' fs fs' w ss o t = record { pair = t.pair; here = t.here; under = t.under; stands = t.stands; others = t.others; alike = record { statics = (t.alike).statics; depth = (t.alike).depth; bare = (t.alike).bare; failures = more_failures (length w.heap) (length (with_object p o w).heap) w.statics (longer w.heap o) (t.alike).failures }; deep = t.deep; count = t.count }
 
   pub made_depth : (os : List Object) (w : World) → (with_objects p os w).depth ≡ w.depth
   made_depth [] w = refl
@@ -187,7 +189,7 @@ module _ (p : Program) (k : Contracts) (ms : List MethodDesc) (g : AddedNumbers)
 
   pub made_alike : (os : List Object) (w : World) (ss : List Statics) → IsBeside w ss → IsBeside (with_objects p os w) ss
   made_alike [] w ss bes = bes
-  made_alike (o ∷ os) w ss bes = made_alike os (with_object p o w) ss (record { statics = bes.statics; depth = bes.depth; bare = bes.bare })
+  made_alike (o ∷ os) w ss bes = made_alike os (with_object p o w) ss (record { statics = bes.statics; depth = bes.depth; bare = bes.bare; failures = more_failures (length w.heap) (length (with_object p o w).heap) w.statics (longer w.heap o) bes.failures })
 
   abbrev pub with_all : (os : List Object) (f f' : Frame) (fs fs' : List Frame) (w : World) (ss : List Statics) → Top f f' fs fs' w ss → Top f f' fs fs' (with_objects p os w) ss
   with_all os f f' fs fs' w ss t =
@@ -208,7 +210,7 @@ module _ (p : Program) (k : Contracts) (ms : List MethodDesc) (g : AddedNumbers)
 
   pub raises : (f f' : Frame) (fs fs' : List Frame) (w : World) (ss : List Statics) (name : Name) → Top f f' fs fs' w ss → To (2 * cst + lay (suc (length fs))) (raise p k name (f ∷ fs) w) (raise p' no_contracts name (f' ∷ fs') (beside ss w))
   unfolding storage
-  raises f f' fs fs' w ss name t = throws f f' fs fs' (with_object p (record { ty = class_named name; cells = [] }) w) ss (next_object w) (with_new f f' fs fs' w ss (record { ty = class_named name; cells = [] }) t)
+  raises f f' fs fs' w ss name t = throws f f' fs fs' (with_object p (record { ty = class_named name; cells = [] }) w) ss (next_object w) (with_new f f' fs fs' w ss (record { ty = class_named name; cells = [] }) t) (new_object w.heap (record { ty = class_named name; cells = [] }))
 
   -- ---- rethrow
 
@@ -234,15 +236,15 @@ module _ (p : Program) (k : Contracts) (ms : List MethodDesc) (g : AddedNumbers)
   innermost_waits m (Rest q) hs hs' x = innermost_same m (Rest q) hs hs' x
   innermost_waits m (InGroup gr j q) hs hs' x = ap innermost x.1 ∙ sym (ap innermost x.0)
 
-  rethrows_by : (o : Option ℕ) (f f' : Frame) (fs fs' : List Frame) (w : World) (ss : List Statics) → Top f f' fs fs' w ss → To (2 * cst + lay (suc (length fs))) (if_there o w (λ x. unwind p k false (f ∷ fs) w x)) (if_there o (beside ss w) (λ x. unwind p' no_contracts false (f' ∷ fs') (beside ss w) x))
-  rethrows_by None f f' fs fs' w ss t = Arriving.stuck_both p k ms g r _ w ss t.alike
-  rethrows_by (Some x) f f' fs fs' w ss t = throws f f' fs fs' w ss x t
+  rethrows_by : (o : Option ℕ) (f f' : Frame) (fs fs' : List Frame) (w : World) (ss : List Statics) → Top f f' fs fs' w ss → ObjectIf (length w.heap) o → To (2 * cst + lay (suc (length fs))) (if_there o w (λ x. unwind p k false (f ∷ fs) w x)) (if_there o (beside ss w) (λ x. unwind p' no_contracts false (f' ∷ fs') (beside ss w) x))
+  rethrows_by None f f' fs fs' w ss t there = Arriving.stuck_both p k ms g r _ w ss t.alike
+  rethrows_by (Some x) f f' fs fs' w ss t there = throws f f' fs fs' w ss x t there
 
-  pub rethrows : (f f' : Frame) (fs fs' : List Frame) (w : World) (ss : List Statics) → Top f f' fs fs' w ss
+  pub rethrows : (f f' : Frame) (fs fs' : List Frame) (w : World) (ss : List Statics) → Top f f' fs fs' w ss → CausesThere (length w.heap) f.handling
       → To (2 * cst + lay (suc (length fs))) (if_there (innermost f.handling) w (λ x. unwind p k false (f ∷ fs) w x)) (if_there (innermost f'.handling) (beside ss w) (λ x. unwind p' no_contracts false (f' ∷ fs') (beside ss w) x))
-  rethrows f f' fs fs' w ss t =
+  rethrows f f' fs fs' w ss t there =
       subst (λ o. To (2 * cst + lay (suc (length fs))) (if_there (innermost f.handling) w (λ x. unwind p k false (f ∷ fs) w x)) (if_there o (beside ss w) (λ x. unwind p' no_contracts false (f' ∷ fs') (beside ss w) x))) (sym (innermost_waits f.method f.at f.handling f'.handling (t.pair).waits))
-      (rethrows_by (innermost f.handling) f f' fs fs' w ss t)
+      (rethrows_by (innermost f.handling) f f' fs fs' w ss t (caught_there (length w.heap) f.handling there))
 
   -- ---- leave
 
@@ -318,11 +320,12 @@ module _ (p : Program) (k : Contracts) (ms : List MethodDesc) (g : AddedNumbers)
 
   -- ---- endfinally
 
-  outside_so : (h : Frame) (at : ProgramPoint) (f' : Frame) (fs fs' : List Frame) (w : World) (ss : List Statics) (hs hs' : List Handling) (q q' : ℕ) (t : Top (record h { at = at }) f' fs fs' w ss) → Unwinding.is_no_group at → HandlingPairs (plan_at k p h.method) (mk h.method) (rows h.method) at hs hs' → IsHere (plan_at k p h.method) (moved_to q at) → IsTrue ((mk h.method).belongs (moved_to q at) q') → Unwinding.Outside p k ms g r h at h.local (t.pair).extra hs hs' q q' f'.continuation fs fs' w ss
-  outside_so h at f' fs fs' w ss hs hs' q q' t no1 pairs here bel =
+  outside_so : (h : Frame) (at : ProgramPoint) (f' : Frame) (fs fs' : List Frame) (w : World) (ss : List Statics) (hs hs' : List Handling) (q q' : ℕ) (t : Top (record h { at = at }) f' fs fs' w ss) → Unwinding.is_no_group at → HandlingPairs (plan_at k p h.method) (mk h.method) (rows h.method) at hs hs' → IsHere (plan_at k p h.method) (moved_to q at) → IsTrue ((mk h.method).belongs (moved_to q at) q') → (x : ℕ) → IsObject (length w.heap) x → Unwinding.Outside p k ms g r h at h.local (t.pair).extra hs hs' q q' f'.continuation fs fs' w ss x
+  outside_so h at f' fs fs' w ss hs hs' q q' t no1 pairs here bel x there =
       record {
         old = (t.stands).old;
         here = t.here;
+        thrown_there = there;
         thrower = here;
         belongs = bel;
         keeps = record { typed = (t.pair).keeps.typed; result = (t.pair).keeps.result; thrown = (t.pair).keeps.thrown; wide = (t.pair).keeps.wide; caps = (t.pair).keeps.caps };
@@ -341,42 +344,42 @@ module _ (p : Program) (k : Contracts) (ms : List MethodDesc) (g : AddedNumbers)
       none_counted (Rest a) n1 e = omega (arith, e)
       none_counted (InGroup gr j a) n1 e = absurd n1
 
-  goes_on_throwing : (h : Frame) (at : ProgramPoint) (f' : Frame) (fs fs' : List Frame) (w : World) (ss : List Statics) (x : ℕ) (hs hs' : List Handling) (skip q q' : ℕ) (t : Top (record h { at = at }) f' fs fs' w ss) → Unwinding.is_no_group at → HandlingPairs (plan_at k p h.method) (mk h.method) (rows h.method) at hs hs' → IsHere (plan_at k p h.method) (moved_to q at) → IsTrue ((mk h.method).belongs (moved_to q at) q')
+  goes_on_throwing : (h : Frame) (at : ProgramPoint) (f' : Frame) (fs fs' : List Frame) (w : World) (ss : List Statics) (x : ℕ) (hs hs' : List Handling) (skip q q' : ℕ) (t : Top (record h { at = at }) f' fs fs' w ss) → Unwinding.is_no_group at → HandlingPairs (plan_at k p h.method) (mk h.method) (rows h.method) at hs hs' → IsHere (plan_at k p h.method) (moved_to q at) → IsTrue ((mk h.method).belongs (moved_to q at) q') → IsObject (length w.heap) x
       → To (2 * cst + lay (suc (length fs))) (throws_in p k (record h { at = at }) hs skip q fs w x (λ s v y. unwind p k s fs v y)) (throws_in p' no_contracts f' hs' skip q' fs' (beside ss w) x (λ s v y. unwind p' no_contracts s fs' v y))
-  goes_on_throwing h (LeadIn a) f' fs fs' w ss x hs hs' skip q q' t no1 pairs here bel =
+  goes_on_throwing h (LeadIn a) f' fs fs' w ss x hs hs' skip q q' t no1 pairs here bel there =
       subst (λ z. To (2 * cst + lay (suc (length fs))) (throws_in p k (record h { at = LeadIn a }) hs skip q fs w x (λ s v y. unwind p k s fs v y)) (throws_in p' no_contracts z hs' skip q' fs' (beside ss w) x (λ s v y. unwind p' no_contracts s fs' v y))) (sym (t.pair).same)
-      (Unwinding.throws_lead p k ms g r h a hs hs' f'.handling q q' skip _ (t.pair).extra f'.continuation fs fs' w ss x (outside_so h (LeadIn a) f' fs fs' w ss hs hs' q q' t no1 pairs here bel))
-  goes_on_throwing h (Rest a) f' fs fs' w ss x hs hs' skip q q' t no1 pairs here bel =
+      (Unwinding.throws_lead p k ms g r h a hs hs' f'.handling q q' skip _ (t.pair).extra f'.continuation fs fs' w ss x (outside_so h (LeadIn a) f' fs fs' w ss hs hs' q q' t no1 pairs here bel x there))
+  goes_on_throwing h (Rest a) f' fs fs' w ss x hs hs' skip q q' t no1 pairs here bel there =
       subst (λ z. To (2 * cst + lay (suc (length fs))) (throws_in p k (record h { at = Rest a }) hs skip q fs w x (λ s v y. unwind p k s fs v y)) (throws_in p' no_contracts z hs' skip q' fs' (beside ss w) x (λ s v y. unwind p' no_contracts s fs' v y))) (sym (t.pair).same)
-      (Unwinding.throws_rest p k ms g r h a hs hs' f'.handling q q' skip _ (t.pair).extra f'.continuation fs fs' w ss x (Unwinding.none_thrown p k ms g r h.thrown (t.stands).fits) (outside_so h (Rest a) f' fs fs' w ss hs hs' q q' t no1 pairs here bel))
-  goes_on_throwing h (InGroup gr j a) f' fs fs' w ss x hs hs' skip q q' t no1 pairs here bel = absurd no1
+      (Unwinding.throws_rest p k ms g r h a hs hs' f'.handling q q' skip _ (t.pair).extra f'.continuation fs fs' w ss x (Unwinding.none_thrown p k ms g r h.thrown (t.stands).fits) (outside_so h (Rest a) f' fs fs' w ss hs hs' q q' t no1 pairs here bel x there))
+  goes_on_throwing h (InGroup gr j a) f' fs fs' w ss x hs hs' skip q q' t no1 pairs here bel there = absurd no1
 
-  resumes_by : (c c' : Cause) (f f' : Frame) (fs fs' : List Frame) (w : World) (ss : List Statics) (h h' : Handling) (hs hs' : List Handling) (t : Top f f' fs fs' w ss) → Unwinding.is_no_group f.at → HandlingPair (plan_at k p f.method) (mk f.method) (rows f.method) f.at h h' → HandlingPairs (plan_at k p f.method) (mk f.method) (rows f.method) f.at hs hs' → c' ≡ Pairs.moved_cause (λ u. (mk f.method).places (moved_to u f.at)) c → Pairs.LeadsTo (plan_at k p f.method) f.at c
+  resumes_by : (c c' : Cause) (f f' : Frame) (fs fs' : List Frame) (w : World) (ss : List Statics) (h h' : Handling) (hs hs' : List Handling) (t : Top f f' fs fs' w ss) → Unwinding.is_no_group f.at → HandlingPair (plan_at k p f.method) (mk f.method) (rows f.method) f.at h h' → HandlingPairs (plan_at k p f.method) (mk f.method) (rows f.method) f.at hs hs' → c' ≡ Pairs.moved_cause (λ u. (mk f.method).places (moved_to u f.at)) c → Pairs.LeadsTo (plan_at k p f.method) f.at c → CauseThere (length w.heap) c
       → To (2 * cst + lay (suc (length fs))) (resume_cause p k h c hs f fs w) (resume_cause p' no_contracts h' c' hs' f' fs' (beside ss w))
-  resumes_by (Caught x) c' f f' fs fs' w ss h h' hs hs' t no1 pair pairs e lead =
+  resumes_by (Caught x) c' f f' fs fs' w ss h h' hs hs' t no1 pair pairs e lead there =
       subst (λ z. To (2 * cst + lay (suc (length fs))) (Ended outcome.Stuck w) (resume_cause p' no_contracts h' z hs' f' fs' (beside ss w))) (sym e) (Arriving.stuck_both p k ms g r _ w ss t.alike)
-  resumes_by (Unwinding x) c' f f' fs fs' w ss h h' hs hs' t no1 pair pairs e lead =
+  resumes_by (Unwinding x) c' f f' fs fs' w ss h h' hs hs' t no1 pair pairs e lead there =
       subst (λ z. To (2 * cst + lay (suc (length fs))) (resume_cause p k h (Unwinding x) hs f fs w) (resume_cause p' no_contracts h' z hs' f' fs' (beside ss w))) (sym e)
       (subst (λ n. To (2 * cst + lay (suc (length fs))) (resume_cause p k h (Unwinding x) hs f fs w) (throws_in p' no_contracts f' hs' n h'.place fs' (beside ss w) x (λ s v y. unwind p' no_contracts s fs' v y))) (sym pair.next)
-      (goes_on_throwing f f.at f' fs fs' w ss x hs hs' h.next h.place h'.place t no1 pairs pair.here pair.belongs))
-  resumes_by (Leaving u) c' f f' fs fs' w ss h h' hs hs' t no1 pair pairs e lead =
+      (goes_on_throwing f f.at f' fs fs' w ss x hs hs' h.next h.place h'.place t no1 pairs pair.here pair.belongs there))
+  resumes_by (Leaving u) c' f f' fs fs' w ss h h' hs hs' t no1 pair pairs e lead there =
       subst (λ z. To (2 * cst + lay (suc (length fs))) (resume_cause p k h (Leaving u) hs f fs w) (resume_cause p' no_contracts h' z hs' f' fs' (beside ss w))) (sym e)
       (subst (λ n. To (2 * cst + lay (suc (length fs))) (resume_cause p k h (Leaving u) hs f fs w) (leave p' no_contracts n h'.place ((mk f.method).places (moved_to u f.at)) f' hs' fs' (beside ss w))) (sym pair.next)
       (Unwinding.reach_within p k ms g r (cst + lay (suc (length fs))) _ _ _ (omega arith) (leaves f f' fs fs' w ss hs hs' h.next h.place h'.place u t no1 pairs pair.here pair.belongs lead)))
 
-  resumes_all : (f f' : Frame) (fs fs' : List Frame) (w : World) (ss : List Statics) (hs hs' : List Handling) (t : Top f f' fs fs' w ss) → Unwinding.is_no_group f.at → HandlingPairs (plan_at k p f.method) (mk f.method) (rows f.method) f.at hs hs' → To (2 * cst + lay (suc (length fs))) (resume p k hs f fs w) (resume p' no_contracts hs' f' fs' (beside ss w))
-  resumes_all f f' fs fs' w ss [] [] t no1 x = Arriving.stuck_both p k ms g r _ w ss t.alike
-  resumes_all f f' fs fs' w ss [] (h' ∷ hs') t no1 x = absurd x
-  resumes_all f f' fs fs' w ss (h ∷ hs) [] t no1 x = absurd x
-  resumes_all f f' fs fs' w ss (h ∷ hs) (h' ∷ hs') t no1 x = resumes_by h.cause h'.cause f f' fs fs' w ss h h' hs hs' t no1 x.0 x.1 (x.0).cause (x.0).leads
+  resumes_all : (f f' : Frame) (fs fs' : List Frame) (w : World) (ss : List Statics) (hs hs' : List Handling) (t : Top f f' fs fs' w ss) → Unwinding.is_no_group f.at → HandlingPairs (plan_at k p f.method) (mk f.method) (rows f.method) f.at hs hs' → CausesThere (length w.heap) hs → To (2 * cst + lay (suc (length fs))) (resume p k hs f fs w) (resume p' no_contracts hs' f' fs' (beside ss w))
+  resumes_all f f' fs fs' w ss [] [] t no1 x there = Arriving.stuck_both p k ms g r _ w ss t.alike
+  resumes_all f f' fs fs' w ss [] (h' ∷ hs') t no1 x there = absurd x
+  resumes_all f f' fs fs' w ss (h ∷ hs) [] t no1 x there = absurd x
+  resumes_all f f' fs fs' w ss (h ∷ hs) (h' ∷ hs') t no1 x there = resumes_by h.cause h'.cause f f' fs fs' w ss h h' hs hs' t no1 x.0 x.1 (x.0).cause (x.0).leads there.0
 
-  resumes_at : (at : ProgramPoint) (f f' : Frame) (fs fs' : List Frame) (w : World) (ss : List Statics) (t : Top f f' fs fs' w ss) → f.at ≡ at → To (2 * cst + lay (suc (length fs))) (resume p k f.handling f fs w) (resume p' no_contracts f'.handling f' fs' (beside ss w))
-  resumes_at (LeadIn q) f f' fs fs' w ss t e = let n1 = subst Unwinding.is_no_group (sym e) tt in resumes_all f f' fs fs' w ss f.handling f'.handling t n1 (from_waits f.method f.at f.handling f'.handling n1 (t.pair).waits)
-  resumes_at (Rest q) f f' fs fs' w ss t e = let n1 = subst Unwinding.is_no_group (sym e) tt in resumes_all f f' fs fs' w ss f.handling f'.handling t n1 (from_waits f.method f.at f.handling f'.handling n1 (t.pair).waits)
-  resumes_at (InGroup gr j q) f f' fs fs' w ss t e =
+  resumes_at : (at : ProgramPoint) (f f' : Frame) (fs fs' : List Frame) (w : World) (ss : List Statics) (t : Top f f' fs fs' w ss) → f.at ≡ at → CausesThere (length w.heap) f.handling → To (2 * cst + lay (suc (length fs))) (resume p k f.handling f fs w) (resume p' no_contracts f'.handling f' fs' (beside ss w))
+  resumes_at (LeadIn q) f f' fs fs' w ss t e there = let n1 = subst Unwinding.is_no_group (sym e) tt in resumes_all f f' fs fs' w ss f.handling f'.handling t n1 (from_waits f.method f.at f.handling f'.handling n1 (t.pair).waits) there
+  resumes_at (Rest q) f f' fs fs' w ss t e there = let n1 = subst Unwinding.is_no_group (sym e) tt in resumes_all f f' fs fs' w ss f.handling f'.handling t n1 (from_waits f.method f.at f.handling f'.handling n1 (t.pair).waits) there
+  resumes_at (InGroup gr j q) f f' fs fs' w ss t e there =
       let ws = subst (λ z. Waits (plan_at k p f.method) (mk f.method) (rows f.method) z f.handling f'.handling) e (t.pair).waits in
       subst (λ z. To (2 * cst + lay (suc (length fs))) (resume p k z f fs w) (resume p' no_contracts f'.handling f' fs' (beside ss w))) (sym ws.0)
       (subst (λ z. To (2 * cst + lay (suc (length fs))) (resume p k [] f fs w) (resume p' no_contracts z f' fs' (beside ss w))) (sym ws.1) (Arriving.stuck_both p k ms g r _ w ss t.alike))
 
-  pub resumes : (f f' : Frame) (fs fs' : List Frame) (w : World) (ss : List Statics) (t : Top f f' fs fs' w ss) → To (2 * cst + lay (suc (length fs))) (resume p k f.handling f fs w) (resume p' no_contracts f'.handling f' fs' (beside ss w))
-  resumes f f' fs fs' w ss t = resumes_at f.at f f' fs fs' w ss t refl
+  pub resumes : (f f' : Frame) (fs fs' : List Frame) (w : World) (ss : List Statics) (t : Top f f' fs fs' w ss) → CausesThere (length w.heap) f.handling → To (2 * cst + lay (suc (length fs))) (resume p k f.handling f fs w) (resume p' no_contracts f'.handling f' fs' (beside ss w))
+  resumes f f' fs fs' w ss t there = resumes_at f.at f f' fs fs' w ss t refl there

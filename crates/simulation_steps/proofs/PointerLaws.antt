@@ -34,6 +34,8 @@ use Rattle.simulation_steps.specs.Steps as Steps
 use Rattle.simulation.proofs.ProgramLaws.{fun_ext, write_cell_same, default_cells_same}
 use Rattle.simulation.proofs.ActLaws.{get_left}
 use Rattle.simulation.proofs.UnwindLaws as Unwinding
+use Rattle.splice_facts.specs.Exceptions.{FailureThere, FailuresThere}
+use Rattle.splice_facts.proofs.ExceptionLaws.{found_failure, set_long}
 use Rattle.simulation.proofs.UnwindLaws.{as_many, set_beside, find_beside}
 
 -- ---- one list of cells with more behind it
@@ -275,17 +277,30 @@ module _ (p : Program) (k : Contracts) (ms : List MethodDesc) (g : AddedNumbers)
   statics_owner t cs None h a = a
   statics_owner t cs (Some s) h a = Rattle.splice_facts.proofs.StaticLaws.same_below r.types s.owner t (h s refl) ∙ a
 
+  statics_failure : (n : ℕ) (t : Ty) (cs : List Cell) (o : Option Statics) → ((s : Statics) → o ≡ Some s → FailureThere n s.init) → FailureThere n (statics_of t cs o).init
+  statics_failure n t cs None h = tt
+  statics_failure n t cs (Some s) h = h s refl
+
   pub static_beside : (t : Ty) (cs : List Cell) (w : World) (ss : List Statics) → Rattle.machine_laws.specs.Answers.is_below r.types t ≡ true → IsBeside w ss → IsBeside (set_static w t cs) (set_statics (same_ty t) (statics_of t cs (find_statics t ss)) ss)
   static_beside t cs w ss a bes =
-      set_beside p k ms g r t (statics_of t cs (find_statics t w.statics)) (statics_of t cs (find_statics t ss)) w ss (ap (statics_of t cs) (find_beside p k ms g r t w ss a bes)) a (statics_owner t cs (find_statics t w.statics) (Unwinding.found_owner t w.statics) a) bes
+      set_beside p k ms g r t (statics_of t cs (find_statics t w.statics)) (statics_of t cs (find_statics t ss)) w ss (ap (statics_of t cs) (find_beside p k ms g r t w ss a bes)) a (statics_owner t cs (find_statics t w.statics) (Unwinding.found_owner t w.statics) a) (statics_failure (length w.heap) t cs (find_statics t w.statics) (λ s e. found_failure (length w.heap) t w.statics s bes.failures e)) bes
 
   object_beside : (k1 : ℕ) (cs : List Cell) (w : World) (ss : List Statics) → set_object (beside ss w) k1 cs ≡ beside ss (set_object w k1 cs)
   object_beside zero cs w ss = refl
   object_beside (suc k1) cs w ss = refl
 
+  as_long : (k1 : ℕ) (cs : List Cell) (w : World) → length (set_object w k1 cs).heap ≡ length w.heap
+  as_long zero cs w = refl
+  as_long (suc k1) cs w = by_object (slice_get w.heap k1)
+    where
+      by_object : (o : Option Object) → length (maybe w.heap (λ (x : Object). Rattle.std.specs.Prelude.slice_set w.heap k1 (record x { cells = cs })) o) ≡ length w.heap
+      by_object None = refl
+      by_object (Some x) = set_long w.heap k1 (record x { cells = cs })
+
   object_keeps : (k1 : ℕ) (cs : List Cell) (w : World) (ss : List Statics) → IsBeside w ss → IsBeside (set_object w k1 cs) ss × ((set_object w k1 cs).depth ≡ w.depth)
   object_keeps zero cs w ss bes = (bes, refl)
-  object_keeps (suc k1) cs w ss bes = (record { statics = bes.statics; depth = bes.depth; bare = bes.bare }, refl)
+  object_keeps (suc k1) cs w ss bes =
+      (record { statics = bes.statics; depth = bes.depth; bare = bes.bare; failures = subst (λ n. FailuresThere n w.statics) (sym (as_long (suc k1) cs w)) bes.failures }, refl)
 
   pub writes : (b b' : Continuation) (fs fs' : List Frame) (w : World) (ss : List Statics) (q : Pointer) (v : Value) → WellFormedPointer (Pairs.bounds p k ms g r) q → below b b' fs fs' → valid fs → IsBeside w ss → Steps.Stored p k ms g r b b' (length fs) (Pairs.count_groups fs) w (write p fs w q v) (write p' fs' (beside ss w) q v)
   writes b b' fs fs' w ss (Arg n m i is) v fine u ok bes = by_frames b b' w ss (length fs) (Pairs.count_groups fs) _ _ bes (framed b b' fs fs' n m _ _ u ok (args_change m (i ∷ is) v))

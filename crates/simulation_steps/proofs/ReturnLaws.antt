@@ -34,6 +34,8 @@ use Rattle.splice_facts.specs.Spliced.{Paired, stands, Arrives}
 use Rattle.splice_facts.specs.Related.{Rewritten, HandlingPairs, Waits, FramePair, Under, count_groups, in_group}
 use Rattle.splice_facts.specs.Related as Pairs
 use Rattle.splice_facts.proofs.ComesLaws.{found_piece}
+use Rattle.splice_facts.specs.Exceptions.{IsObject, ObjectIf, BackThere}
+use Rattle.splice_facts.specs.Input.{ReturnsAsNamed}
 use Rattle.simulation.proofs.ArriveLaws as Arriving
 use Rattle.simulation.proofs.ArriveLaws.{group_begins, groups_of, arrives_here, rest_here}
 use Rattle.simulation.proofs.UnwindLaws as Unwinding
@@ -90,13 +92,13 @@ module _ (p : Program) (k : Contracts) (ms : List MethodDesc) (g : AddedNumbers)
   no_handling m (InGroup gr j q) hs hs' e x = x.1
 
   -- the plain run pushes the exception and throws it
-  pub makes_throw : (x q : ℕ) (h h' : Frame) (fs fs' : List Frame) (w : World) (ss : List Statics) → FramePair p k ms g r q h fs h' → IsHere (plan_at k p h.method) h.at → Pairs.Throws_here p k ms g r h q x → below h.continuation h'.continuation fs fs' → Pairs.Standing p k ms g r h fs → valid fs → IsBeside w ss → w.depth ≤ suc k.settings.guard → w.depth ≡ in_group h.at + count_groups fs
+  pub makes_throw : (x q : ℕ) (h h' : Frame) (fs fs' : List Frame) (w : World) (ss : List Statics) → FramePair p k ms g r q h fs h' → IsHere (plan_at k p h.method) h.at → Pairs.Throws_here p k ms g r h q x → below h.continuation h'.continuation fs fs' → Pairs.Standing p k ms g r h fs → valid fs → IsBeside w ss → IsObject (length w.heap) x → w.depth ≤ suc k.settings.guard → w.depth ≡ in_group h.at + count_groups fs
       → To (3 * cst + lay (suc (length fs))) (unwind p k false (h ∷ fs) w x) (push_below p' no_contracts (Some (Obj x)) (h' ∷ fs') (beside ss w))
-  makes_throw x q h h' fs fs' w ss pair here t under st ok bes deep count =
+  makes_throw x q h h' fs fs' w ss pair here t under st ok bes there deep count =
       let none = no_handling h.method h.at h.handling h'.handling t.in_group pair.waits in
       let h1 : Frame = record h { local = pushed (Obj x) h.local } in
       let u = unwinds_at p k ms g r h1 h.at pair.extra [] t.next.thrower h'.continuation fs fs' w ss x
-      (record { old = st.old; here = here; belongs = t.next.belongs; keeps = record { typed = pair.keeps.typed; result = pair.keeps.result; thrown = pair.keeps.thrown; wide = pair.keeps.wide; caps = pair.keeps.caps }; fits = st.fits; waits = no_waits h.at t.in_group pair.waits; under = under; alike = bes; numbers = as_many p k ms g r h.continuation h'.continuation fs fs' under; deep = deep; count = count; down = unwinds p k ms g r h.continuation h'.continuation fs fs' under ok; own = st.initializes }) in
+      (record { old = st.old; here = here; thrown_there = there; belongs = t.next.belongs; keeps = record { typed = pair.keeps.typed; result = pair.keeps.result; thrown = pair.keeps.thrown; wide = pair.keeps.wide; caps = pair.keeps.caps }; fits = st.fits; waits = no_waits h.at t.in_group pair.waits; under = under; alike = bes; numbers = as_many p k ms g r h.continuation h'.continuation fs fs' under; deep = deep; count = count; down = unwinds p k ms g r h.continuation h'.continuation fs fs' under ok; own = st.initializes }) in
       let e1 = stack_unread h h.at (Obj x ∷ h.local.stack) fs w x t.in_group in
       subst (λ z. To (3 * cst + lay (suc (length fs))) (unwind p k false (h ∷ fs) w x) (push_below p' no_contracts (Some (Obj x)) (z ∷ fs') (beside ss w))) (sym (pair.same ∙ ap (λ hs. Unwinding.tw p k ms g r h h.local pair.extra q hs h'.continuation) none))
       (Unwinding.reach_within p k ms g r (cst + (2 * cst + lay (suc (length fs)))) _ _ _ (omega arith)
@@ -132,18 +134,18 @@ module _ (p : Program) (k : Contracts) (ms : List MethodDesc) (g : AddedNumbers)
   common_returns (UseField a) args v fs fs' w ss c u ok heap bes deep count us = sooner (length fs) _ _ (us a refl)
   common_returns (TryNext e t0 l) args v fs fs' w ss c u ok heap bes deep count us = Delegating.answers_tried p k ms g r e t0 l (option_and_then truth v) (TryNext e t0 l) fs fs' w ss c u ok heap bes deep count
 
-  pub returns_down : (b b' : Continuation) (args : List Cell) (v : Option Value) (fs fs' : List Frame) (w : World) (ss : List Statics) → below b b' fs fs' → valid fs → WellFormedContinuation (Pairs.bounds p k ms g r) b → WellFormedHeap w → IsBeside w ss → w.depth ≤ suc k.settings.guard → w.depth ≡ count_groups fs
+  pub returns_down : (b b' : Continuation) (args : List Cell) (v : Option Value) (fs fs' : List Frame) (w : World) (ss : List Statics) → below b b' fs fs' → valid fs → WellFormedContinuation (Pairs.bounds p k ms g r) b → BackThere (length w.heap) b → WellFormedHeap w → IsBeside w ss → w.depth ≤ suc k.settings.guard → w.depth ≡ count_groups fs
       → To (cst + lay (suc (suc (length fs)))) (return_with p k b args v fs w) (return_with p' no_contracts b' args v fs' (beside ss w))
-  returns_down b b' args v fs fs' w ss (Under.bottom b1 c) ok fine heap bes deep count =
+  returns_down b b' args v fs fs' w ss (Under.bottom b1 c) ok fine back heap bes deep count =
       common_returns b1 args v [] [] w ss c (Under.bottom b1 c) ok heap bes deep count (λ a e. Arriving.stuck_both p k ms g r _ w ss bes)
-  returns_down b b' args v fs fs' w ss (Under.waits b1 h h' hs hs' c pair here on under) ok fine heap bes deep count =
+  returns_down b b' args v fs fs' w ss (Under.waits b1 h h' hs hs' c pair here on under) ok fine back heap bes deep count =
       let top : Performing.Top p k ms g r h h' hs hs' w ss = record { pair = pair; here = here; under = under; stands = ok.0; others = ok.1; alike = bes; deep = deep; count = count } in
       common_returns b1 args v (h ∷ hs) (h' ∷ hs') w ss c (Under.waits b1 h h' hs hs' c pair here on under) ok heap bes deep count
       (λ a e. uses_so a args v h h' hs hs' w ss top on (subst (WellFormedContinuation (Pairs.bounds p k ms g r)) e fine))
-  returns_down b b' args v fs fs' w ss (Under.begins h h' hs hs' pair first n n' under) ok fine heap bes deep count =
+  returns_down b b' args v fs fs' w ss (Under.begins h h' hs hs' pair first n n' under) ok fine back heap bes deep count =
       sooner (suc (length hs)) _ _ (Entering.begins_so p k ms g r h h' hs hs' w ss pair first ok.0 under bes deep)
-  returns_down b b' args v fs fs' w ss (Under.throws x q h h' hs hs' pair here th under) ok fine heap bes deep count =
-      Unwinding.reach_within p k ms g r (3 * cst + lay (suc (length hs))) _ _ _ (omega arith) (makes_throw x q h h' hs hs' w ss pair here th under ok.0 ok.1 bes deep count)
+  returns_down b b' args v fs fs' w ss (Under.throws x q h h' hs hs' pair here th under) ok fine back heap bes deep count =
+      Unwinding.reach_within p k ms g r (3 * cst + lay (suc (length hs))) _ _ _ (omega arith) (makes_throw x q h h' hs hs' w ss pair here th under ok.0 ok.1 bes back deep count)
 
   -- ---- groups end
 
@@ -159,6 +161,10 @@ module _ (p : Program) (k : Contracts) (ms : List MethodDesc) (g : AddedNumbers)
     pub deep : w.depth ≤ suc k.settings.guard
     pub count : w.depth ≡ count_groups fs
     pub heap : WellFormedHeap w
+    -- what it throws, and where it returns, are objects
+    pub thrown : ObjectIf (length w.heap) h.thrown
+    pub back : BackThere (length w.heap) h.continuation
+    pub named : ReturnsAsNamed p h
 
   abbrev at_new : Frame → LocalState → List Cell → ℕ → Continuation → List Frame → World → List Statics → Next
   at_new h l ex q b' fs' w ss = stands p k p' g r.types r.depths h l ex q b' fs' w ss
@@ -170,9 +176,9 @@ module _ (p : Program) (k : Contracts) (ms : List MethodDesc) (g : AddedNumbers)
   invariants_over c h l ex b' fs fs' w ss stays bes z =
       let h1 : Frame = record h { local = l } in
       let scene : Paired p k p' g r.types r.depths (mk h.method) h1 fs fs' w ex ss = record { keeps = z.keeps; beside = bes; numbers = as_many p k ms g r h.continuation b' fs fs' z.under; deep = z.deep } in
-      let t = (groups_of p k ms g r h.method c z.plan z.old).returns h1 fs fs' w ex ss b' refl stays scene in
+      let t = (groups_of p k ms g r h.method c z.plan z.old).returns h1 fs fs' w ex ss b' refl z.named stays scene in
       Unwinding.reach_within p k ms g r (cst + (cst + lay (suc (suc (length fs))))) _ _ _ (omega arith)
-      (Unwinding.reach_by p k ms g r cst (cst + lay (suc (suc (length fs)))) _ _ _ t (returns_down h.continuation b' l.args l.result fs fs' w ss z.under z.others z.fine_back z.heap bes z.deep z.count))
+      (Unwinding.reach_by p k ms g r cst (cst + lay (suc (suc (length fs)))) _ _ _ t (returns_down h.continuation b' l.args l.result fs fs' w ss z.under z.others z.fine_back z.back z.heap bes z.deep z.count))
 
   pub stack_gone : (h : Frame) (l : LocalState) (fs : List Frame) (w : World) → return_to p k (with_local (with_stack l []) h) fs w ≡ return_to p k (with_local l h) fs w
   unfolding return_to
@@ -193,7 +199,7 @@ module _ (p : Program) (k : Contracts) (ms : List MethodDesc) (g : AddedNumbers)
   invariants_begin c h l ex b' fs fs' w ss stays empty bare bes z =
       group_begins p k ms g r c group.Invariant h l ex b' fs fs' w ss (return_to p k (with_local l h) fs w) z.plan z.old (λ d. cc d) empty (subst (λ o. Unwinding.Fits p k ms g r group.Invariant o) (sym bare) tt) z.keeps bes (as_many p k ms g r h.continuation b' fs fs' z.under) z.deep z.under (3 * cst + lay (suc (suc (length fs)))) (omega arith)
       (λ a.
-      let rest = invariants_over c h (with_stack l []) a.extra b' fs fs' w a.statics stays a.beside (record { plan = z.plan; old = z.old; keeps = a.keeps; under = z.under; others = z.others; own = z.own; fine_back = z.fine_back; deep = z.deep; count = z.count; heap = z.heap }) in
+      let rest = invariants_over c h (with_stack l []) a.extra b' fs fs' w a.statics stays a.beside (record { plan = z.plan; old = z.old; keeps = a.keeps; under = z.under; others = z.others; own = z.own; fine_back = z.fine_back; deep = z.deep; count = z.count; heap = z.heap; thrown = z.thrown; back = z.back; named = z.named }) in
       Unwinding.reach_within p k ms g r (cst + (2 * cst + lay (suc (suc (length fs))))) _ _ _ (omega arith)
       (Unwinding.reach_by p k ms g r cst (2 * cst + lay (suc (suc (length fs)))) _ _ _ a.comes
       (subst (λ y. To (2 * cst + lay (suc (suc (length fs)))) y (at_new h (with_stack l []) a.extra ((mk h.method).out group.Invariant) b' fs' w a.statics)) (stack_gone h l fs w) rest)))
@@ -206,7 +212,7 @@ module _ (p : Program) (k : Contracts) (ms : List MethodDesc) (g : AddedNumbers)
       let scene : Paired p k p' g r.types r.depths (mk h.method) h1 fs fs' w ex ss = record { keeps = z.keeps; beside = bes; numbers = as_many p k ms g r h.continuation b' fs fs' z.under; deep = z.deep } in
       let t = (groups_of p k ms g r h.method c z.plan z.old).throws h1 fs fs' w ex ss b' x refl e kept scene in
       Unwinding.reach_within p k ms g r (cst + (2 * cst + lay (length fs))) _ _ _ (omega arith)
-      (Unwinding.reach_by p k ms g r cst (2 * cst + lay (length fs)) _ _ _ t (ends_so p k ms g r h b' fs fs' w ss x (unwinds p k ms g r h.continuation b' fs fs' z.under z.others) z.own bes z.count z.deep))
+      (Unwinding.reach_by p k ms g r cst (2 * cst + lay (length fs)) _ _ _ t (ends_so p k ms g r h b' fs fs' w ss x (unwinds p k ms g r h.continuation b' fs fs' z.under z.others) z.own bes (subst (ObjectIf (length w.heap)) e z.thrown) z.count z.deep))
 
   not_thrown : (gr : Group) (o : Option ℕ) → Unwinding.Fits p k ms g r gr o → (gr ≡ group.Throw → ⊥) → o ≡ None
   not_thrown group.Entry None f n = refl
@@ -251,4 +257,4 @@ module _ (p : Program) (k : Contracts) (ms : List MethodDesc) (g : AddedNumbers)
       continued p k ms g r c gr h1 l b' fs fs' w (at_new h l ex ((mk h.method).behind gr j) b' fs' w ss) (group_over p k c gr (with_local l h) fs (lowered w)) (next_piece p c gr (j + 1) h fs w) z.plan z.old z.under (λ y e. found_piece p c gr (j + 1) h fs w y e) a (4 * cst + lay (suc (suc (length fs)))) (omega arith)
       (λ a1. Unwinding.reach_within p k ms g r (cst + (3 * cst + lay (suc (suc (length fs))))) _ _ _ (omega arith)
       (Unwinding.reach_by p k ms g r cst (3 * cst + lay (suc (suc (length fs)))) _ _ _ a1.comes
-      (group_is_over c gr h l a1.extra b' fs fs' (lowered w) a1.statics n stays fit a1.beside (record { plan = z.plan; old = z.old; keeps = a1.keeps; under = z.under; others = z.others; own = z.own; fine_back = z.fine_back; deep = z.deep; count = z.count; heap = z.heap }))))
+      (group_is_over c gr h l a1.extra b' fs fs' (lowered w) a1.statics n stays fit a1.beside (record { plan = z.plan; old = z.old; keeps = a1.keeps; under = z.under; others = z.others; own = z.own; fine_back = z.fine_back; deep = z.deep; count = z.count; heap = z.heap; thrown = z.thrown; back = z.back; named = z.named }))))

@@ -40,6 +40,7 @@ use Rattle.splice_facts.specs.Grown.{grow, beside, grow_act, NamesLocals}
 use Rattle.machine_laws.specs.Answers.{is_below}
 use Rattle.splice_facts.specs.WellFormed.{WellFormedContinuation}
 use Rattle.splice_facts.specs.Acting.{KeepsPlaces, WellFormedAct}
+use Rattle.splice_facts.specs.Exceptions.{ThrowsObject}
 use Rattle.splice_facts.specs.Layout.{Marks, Keeps, IsHere, CanArrive, Onward}
 use Rattle.splice_facts.specs.Spliced.{Paired, from_here}
 use Rattle.splice_facts.specs.Related.{Rewritten, FramePair, Under, count_groups, in_group}
@@ -109,12 +110,12 @@ module _ (p : Program) (k : Contracts) (ms : List MethodDesc) (g : AddedNumbers)
   top_with f f' fs fs' w ss l t kl =
       record { pair = Pointing.pair_changed p k ms g r _ f f' fs l t.pair kl; here = t.here; under = t.under; stands = Pointing.stands_changed p k ms g r f fs l t.stands kl.locals; others = t.others; alike = t.alike; deep = t.deep; count = t.count }
 
-  uses_by : (i : Initializer) (ty : Ty) (a : Access) (f f' : Frame) (fs fs' : List Frame) (w : World) (ss : List Statics) (l : LocalState) (t : Top f f' fs fs' w ss) → Onward (plan_at k p f.method) (mk f.method).places f.at (next_place f.at) → KeepsPlaces f.local l → IsTrue (is_below r.types ty) → Rattle.splice_facts.specs.WellFormed.WellFormedAccess (Pairs.bounds p k ms g r) a → ((m : ℕ) → i ≡ ToRun m → m < r.methods)
+  uses_by : (i : Initializer) (ty : Ty) (a : Access) (f f' : Frame) (fs fs' : List Frame) (w : World) (ss : List Statics) (l : LocalState) (t : Top f f' fs fs' w ss) → Onward (plan_at k p f.method) (mk f.method).places f.at (next_place f.at) → KeepsPlaces f.local l → IsTrue (is_below r.types ty) → Rattle.splice_facts.specs.WellFormed.WellFormedAccess (Pairs.bounds p k ms g r) a → ((m : ℕ) → i ≡ ToRun m → m < r.methods) → Entering.FailedIf p k ms g r i w
       → To (2 * cst + lay (suc (suc (length fs)))) (use_behind p k i ty a f l fs w) (use_behind p' no_contracts i ty a f' (grow (t.pair.extra) l) fs' (beside ss w))
-  uses_by Ready ty a f f' fs fs' w ss l t on kl below fine own = Unwinding.reach_within p k ms g r (cst + lay (suc (length fs))) _ _ _ (omega arith) (Performing.uses_static p k ms g r f f' fs fs' w ss a l t on kl fine)
-  uses_by (FailedWith x) ty a f f' fs fs' w ss l t on kl below fine own =
-      Unwinding.reach_within p k ms g r (2 * cst + lay (suc (length fs))) _ _ _ (omega arith) (Performing.throws p k ms g r (record f { local = l }) (record f' { local = grow (t.pair.extra) l }) fs fs' w ss x (top_with f f' fs fs' w ss l t kl))
-  uses_by (ToRun m) ty a f f' fs fs' w ss l t on kl below fine own =
+  uses_by Ready ty a f f' fs fs' w ss l t on kl below fine own failed = Unwinding.reach_within p k ms g r (cst + lay (suc (length fs))) _ _ _ (omega arith) (Performing.uses_static p k ms g r f f' fs fs' w ss a l t on kl fine)
+  uses_by (FailedWith x) ty a f f' fs fs' w ss l t on kl below fine own failed =
+      Unwinding.reach_within p k ms g r (2 * cst + lay (suc (length fs))) _ _ _ (omega arith) (Performing.throws p k ms g r (record f { local = l }) (record f' { local = grow (t.pair.extra) l }) fs fs' w ss x (top_with f f' fs fs' w ss l t kl) failed)
+  uses_by (ToRun m) ty a f f' fs fs' w ss l t on kl below fine own failed =
       let F : Frame = record f { local = l } in
       let F' : Frame = record f' { local = grow (t.pair.extra) l } in
       let t1 = top_with f f' fs fs' w ss l t kl in
@@ -141,35 +142,35 @@ module _ (p : Program) (k : Contracts) (ms : List MethodDesc) (g : AddedNumbers)
   own_place (InGroup gr j q) = refl
   own_place (Rest q) = refl
 
-  pub performs : (a : Act) (f f' : Frame) (fs fs' : List Frame) (w : World) (ss : List Statics) (t : Top f f' fs fs' w ss) → WellFormedAct (Pairs.bounds p k ms g r) f.local a → LeadsOn f a
+  pub performs : (a : Act) (f f' : Frame) (fs fs' : List Frame) (w : World) (ss : List Statics) (t : Top f f' fs fs' w ss) → WellFormedAct (Pairs.bounds p k ms g r) f.local a → LeadsOn f a → ThrowsObject (length w.heap) f.handling a
       → To (2 * cst + lay (suc (suc (length fs)))) (perform p k g a f fs w) (perform p' no_contracts none (grow_act (λ u. (mk f.method).places (moved_to u f.at)) (t.pair.extra) a) f' fs' (beside ss w))
-  performs Stuck f f' fs fs' w ss t fine on = Arriving.stuck_both p k ms g r _ w ss t.alike
-  performs (GoOn made l) f f' fs fs' w ss t fine on =
+  performs Stuck f f' fs fs' w ss t fine on there = Arriving.stuck_both p k ms g r _ w ss t.alike
+  performs (GoOn made l) f f' fs fs' w ss t fine on there =
       subst (λ v. To (2 * cst + lay (suc (suc (length fs)))) (perform p k g (GoOn made l) f fs w) (go_on p' no_contracts f' (grow (t.pair.extra) l) fs' v)) (sym (Performing.made_beside p k ms g r made w ss))
       (Unwinding.reach_within p k ms g r (cst + lay (suc (length fs))) _ _ _ (omega arith) (Performing.goes p k ms g r f f' fs fs' (with_objects p made w) ss None l (Performing.with_all p k ms g r made f f' fs fs' w ss t) on fine))
-  performs (Jump u l) f f' fs fs' w ss t fine on = Unwinding.reach_within p k ms g r (cst + lay (suc (length fs))) _ _ _ (omega arith) (Performing.jumps p k ms g r f f' fs fs' w ss u l t on fine)
-  performs (Raise name) f f' fs fs' w ss t fine on = Unwinding.reach_within p k ms g r (2 * cst + lay (suc (length fs))) _ _ _ (omega arith) (Performing.raises p k ms g r f f' fs fs' w ss name t)
-  performs (Throw x) f f' fs fs' w ss t fine on = Unwinding.reach_within p k ms g r (2 * cst + lay (suc (length fs))) _ _ _ (omega arith) (Performing.throws p k ms g r f f' fs fs' w ss x t)
-  performs Rethrow f f' fs fs' w ss t fine on = Unwinding.reach_within p k ms g r (2 * cst + lay (suc (length fs))) _ _ _ (omega arith) (Performing.rethrows p k ms g r f f' fs fs' w ss t)
-  performs (Leave u) f f' fs fs' w ss t fine on =
+  performs (Jump u l) f f' fs fs' w ss t fine on there = Unwinding.reach_within p k ms g r (cst + lay (suc (length fs))) _ _ _ (omega arith) (Performing.jumps p k ms g r f f' fs fs' w ss u l t on fine)
+  performs (Raise name) f f' fs fs' w ss t fine on there = Unwinding.reach_within p k ms g r (2 * cst + lay (suc (length fs))) _ _ _ (omega arith) (Performing.raises p k ms g r f f' fs fs' w ss name t)
+  performs (Throw x) f f' fs fs' w ss t fine on there = Unwinding.reach_within p k ms g r (2 * cst + lay (suc (length fs))) _ _ _ (omega arith) (Performing.throws p k ms g r f f' fs fs' w ss x t there)
+  performs Rethrow f f' fs fs' w ss t fine on there = Unwinding.reach_within p k ms g r (2 * cst + lay (suc (length fs))) _ _ _ (omega arith) (Performing.rethrows p k ms g r f f' fs fs' w ss t there)
+  performs (Leave u) f f' fs fs' w ss t fine on there =
       let own = (r.bodies f.method (t.stands).old).own f.at t.here in
       let at' : f'.at ≡ Rest ((mk f.method).places f.at) = ap (λ (z : Frame). z.at) (t.pair).same in
       Unwinding.reach_within p k ms g r (cst + lay (suc (length fs))) _ _ _ (omega arith)
       (subst (λ z. To (cst + lay (suc (length fs))) (perform p k g (Leave u) f fs w) (Rattle.cil_semantics.specs.Unwind.leave p' no_contracts 0 (place_in z) ((mk f.method).places (moved_to u f.at)) f' f'.handling fs' (beside ss w))) (sym at')
       (Performing.leaves p k ms g r f f' fs fs' w ss f.handling f'.handling 0 (place_in f.at) ((mk f.method).places f.at) u t on.0 (Performing.from_waits p k ms g r f.method f.at f.handling f'.handling on.0 (t.pair).waits)
       (subst (Rattle.splice_facts.specs.Layout.IsHere (plan_at k p f.method)) (sym (own_place f.at)) t.here) (subst (λ z. IsTrue ((mk f.method).belongs z ((mk f.method).places f.at))) (sym (own_place f.at)) own) on.1))
-  performs EndHandler f f' fs fs' w ss t fine on = Unwinding.reach_within p k ms g r (2 * cst + lay (suc (length fs))) _ _ _ (omega arith) (Performing.resumes p k ms g r f f' fs fs' w ss t)
-  performs Return f f' fs fs' w ss t fine on = absurd on
-  performs (Load q h l) f f' fs fs' w ss t fine on = Unwinding.reach_within p k ms g r (cst + lay (suc (length fs))) _ _ _ (omega arith) (Performing.loads p k ms g r f f' fs fs' w ss q h l t on fine.0 fine.1)
-  performs (Store q v l) f f' fs fs' w ss t fine on = Unwinding.reach_within p k ms g r (cst + lay (suc (length fs))) _ _ _ (omega arith) (Performing.stores p k ms g r f f' fs fs' w ss q v l t on fine.0 fine.1)
-  performs (Copy a b h l) f f' fs fs' w ss t fine on = Unwinding.reach_within p k ms g r (cst + lay (suc (length fs))) _ _ _ (omega arith) (Performing.copies p k ms g r f f' fs fs' w ss a b h l t on fine.0 fine.1 fine.2)
-  performs (UseStatic ty a l) f f' fs fs' w ss t fine on =
+  performs EndHandler f f' fs fs' w ss t fine on there = Unwinding.reach_within p k ms g r (2 * cst + lay (suc (length fs))) _ _ _ (omega arith) (Performing.resumes p k ms g r f f' fs fs' w ss t there)
+  performs Return f f' fs fs' w ss t fine on there = absurd on
+  performs (Load q h l) f f' fs fs' w ss t fine on there = Unwinding.reach_within p k ms g r (cst + lay (suc (length fs))) _ _ _ (omega arith) (Performing.loads p k ms g r f f' fs fs' w ss q h l t on fine.0 fine.1)
+  performs (Store q v l) f f' fs fs' w ss t fine on there = Unwinding.reach_within p k ms g r (cst + lay (suc (length fs))) _ _ _ (omega arith) (Performing.stores p k ms g r f f' fs fs' w ss q v l t on fine.0 fine.1)
+  performs (Copy a b h l) f f' fs fs' w ss t fine on there = Unwinding.reach_within p k ms g r (cst + lay (suc (length fs))) _ _ _ (omega arith) (Performing.copies p k ms g r f f' fs fs' w ss a b h l t on fine.0 fine.1 fine.2)
+  performs (UseStatic ty a l) f f' fs fs' w ss t fine on there =
       subst (λ i. To (2 * cst + lay (suc (suc (length fs)))) (use_behind p k (initializer p w ty) ty a f l fs w) (use_behind p' no_contracts i ty a f' (grow (t.pair.extra) l) fs' (beside ss w))) (sym (Entering.initializer_same p k ms g r w ss ty fine.1 t.alike))
-      (uses_by (initializer p w ty) ty a f f' fs fs' w ss l t on fine.0 fine.1 fine.2 (λ m e. r.owned ty w m fine.1 e))
-  performs (CallMember c l) f f' fs fs' w ss t fine on = absurd on
-  performs (CallVirtual c l) f f' fs fs' w ss t fine on = absurd on
-  performs (NewObject c l) f f' fs fs' w ss t fine on = absurd on
-  performs (LoadVirtualFunction c l) f f' fs fs' w ss t fine on = absurd on
+      (uses_by (initializer p w ty) ty a f f' fs fs' w ss l t on fine.0 fine.1 fine.2 (λ m e. r.owned ty w m fine.1 e) (Entering.failed_there p k ms g r ty w ss t.alike))
+  performs (CallMember c l) f f' fs fs' w ss t fine on there = absurd on
+  performs (CallVirtual c l) f f' fs fs' w ss t fine on there = absurd on
+  performs (NewObject c l) f f' fs fs' w ss t fine on there = absurd on
+  performs (LoadVirtualFunction c l) f f' fs fs' w ss t fine on there = absurd on
 
   -- ---- what was told before stands before both
 
@@ -186,7 +187,7 @@ module _ (p : Program) (k : Contracts) (ms : List MethodDesc) (g : AddedNumbers)
   told_so j T (Ended o w) = refl
 
   match_told : (T : List Item) (x y : Next) → Match (Arriving.E p k ms g r) (Arriving.R p k ms g r) x y → Match (Arriving.E p k ms g r) (Arriving.R p k ms g r) (goes_after T x) (goes_after T y)
-  match_told T (Running s) (Running s') m = record { frames = m.frames; statics = m.statics; alike = record { statics = (m.alike).statics; depth = (m.alike).depth; bare = (m.alike).bare }; world = ap (recorded_after T) m.world }
+  match_told T (Running s) (Running s') m = record { frames = m.frames; statics = m.statics; alike = record { statics = (m.alike).statics; depth = (m.alike).depth; bare = (m.alike).bare; failures = (m.alike).failures }; world = ap (recorded_after T) m.world }
   match_told T (Ended o w) (Ended o' w') m = (m.0, record { heap = (m.1).heap; statics = (m.1).statics; trace = ap (λ t. T ++ t) ((m.1).trace) })
   match_told T (Running s) (Ended o w) m = absurd m
   match_told T (Ended o w) (Running s) m = absurd m
@@ -238,11 +239,11 @@ module _ (p : Program) (k : Contracts) (ms : List MethodDesc) (g : AddedNumbers)
 
   -- One step at an instruction that is copied and calls nothing: the plain run's step at the copy answers it.
   pub plain_step_answers : (f f' : Frame) (fs fs' : List Frame) (w : World) (ss : List Statics) (t : Top f f' fs fs' (unrecorded w) ss) (i : Instr) → Rattle.splice_facts.specs.Layout.fetch p k g (plan_at k p f.method) f.method f.at ≡ Some i → Rattle.splice_facts.specs.Spliced.IsPlainAt p k p' g r.types r.depths f.method (plan_at k p f.method) f.at i
-      → WellFormedAct (Pairs.bounds p k ms g r) f.local (act p (here_of f fs) i (unrecorded w) f.local) → LeadsOn f (act p (here_of f fs) i (unrecorded w) f.local)
+      → WellFormedAct (Pairs.bounds p k ms g r) f.local (act p (here_of f fs) i (unrecorded w) f.local) → LeadsOn f (act p (here_of f fs) i (unrecorded w) f.local) → ThrowsObject (length w.heap) f.handling (act p (here_of f fs) i (unrecorded w) f.local)
       → step_frames p k g (f ∷ fs) (unrecorded w) ≡ run_plain p k g i f fs (unrecorded w)
       → To (suc (2 * cst + lay (suc (suc (length fs))))) (step p k g (record { frames = f ∷ fs; world = w })) (Running (record { frames = f' ∷ fs'; world = beside ss w }))
-  plain_step_answers f f' fs fs' w ss t i e plain fine on first =
+  plain_step_answers f f' fs fs' w ss t i e plain fine on there first =
       step_by (2 * cst + lay (suc (suc (length fs)))) (record { frames = f ∷ fs; world = w }) (record { frames = f' ∷ fs'; world = beside ss w }) refl
       (subst (λ z. To (2 * cst + lay (suc (suc (length fs)))) z (step_frames p' no_contracts none (f' ∷ fs') (beside ss (unrecorded w)))) (sym first)
       (subst (λ z. To (2 * cst + lay (suc (suc (length fs)))) (run_plain p k g i f fs (unrecorded w)) z) (sym (copy_runs f f' fs fs' (unrecorded w) ss t i e plain))
-      (performs (act p (here_of f fs) i (unrecorded w) f.local) f f' fs fs' (unrecorded w) ss t fine on)))
+      (performs (act p (here_of f fs) i (unrecorded w) f.local) f f' fs fs' (unrecorded w) ss t fine on there)))

@@ -16,6 +16,7 @@ use Rattle.cil_semantics.specs.Outside.{by_ref_args, pointer_in, Answer, Returne
 use Rattle.cil_semantics.specs.Checks.{AddedNumbers}
 use Rattle.splice_facts.specs.Grown.{beside}
 use Rattle.splice_facts.specs.WellFormed.{WellFormedPointer}
+use Rattle.splice_facts.specs.Exceptions.{IsObject}
 use Rattle.splice_facts.specs.Related.{Rewritten, written, bounds, Under, AllStand, count_groups}
 use Rattle.simulation_steps.specs.Steps.{BesideIn}
 
@@ -49,7 +50,7 @@ module _ (p : Program) (k : Contracts) (ms : List MethodDesc) (g : AddedNumbers)
   -- the same value, the same exception, or neither fits
   abbrev pub BothAnswer : Continuation → Continuation → (n c d : ℕ) → Answer → Answer → Type 0
   BothAnswer b b' n c d (Returned v gs w) (Returned v' gs' w') = (v' ≡ v) × Both b b' n c d gs gs' w w'
-  BothAnswer b b' n c d (Threw x gs w) (Threw x' gs' w') = (x' ≡ x) × Both b b' n c d gs gs' w w'
+  BothAnswer b b' n c d (Threw x gs w) (Threw x' gs' w') = (x' ≡ x) × Both b b' n c d gs gs' w w' × IsObject (length w.heap) x
   BothAnswer b b' n c d (Unfit w) (Unfit w') = BothWorlds d w w'
   BothAnswer b b' n c d a a' = ⊥
 

@@ -18,6 +18,7 @@ use Rattle.cil_semantics.specs.Returns.{return_with}
 use Rattle.cil_semantics.specs.Checks.{AddedNumbers}
 use Rattle.splice_facts.specs.Grown.{beside}
 use Rattle.splice_facts.specs.WellFormed.{WellFormedPointer, WellFormedContinuation, WellFormedObjects}
+use Rattle.splice_facts.specs.Exceptions.{BackThere}
 use Rattle.splice_facts.specs.Spliced.{Beside, cost}
 use Rattle.splice_facts.specs.Related.{Rewritten, written, bounds, ReachesIn, per_frame, Under, AllStand, count_groups}
 
@@ -52,5 +53,5 @@ module _ (p : Program) (k : Contracts) (ms : List MethodDesc) (g : AddedNumbers)
   -- A value goes down to the frame below: it is pushed there or used, tells ForAll and Exists what to try next, an initializer's caller begins, or an exception that was made is thrown.
   abbrev pub ReturnsAlike : Type 0
   ReturnsAlike =
-      (b b' : Continuation) (args : List Cell) (v : Option Value) (fs fs' : List Frame) (w : World) (ss : List Statics) → Under p k ms g r b b' fs fs' → AllStand p k ms g r fs → WellFormedContinuation (bounds p k ms g r) b → WellFormedObjects (bounds p k ms g r) w.heap → BesideIn w ss → w.depth ≤ suc k.settings.guard → w.depth ≡ count_groups fs
+      (b b' : Continuation) (args : List Cell) (v : Option Value) (fs fs' : List Frame) (w : World) (ss : List Statics) → Under p k ms g r b b' fs fs' → AllStand p k ms g r fs → WellFormedContinuation (bounds p k ms g r) b → BackThere (length w.heap) b → WellFormedObjects (bounds p k ms g r) w.heap → BesideIn w ss → w.depth ≤ suc k.settings.guard → w.depth ≡ count_groups fs
       → ReachesIn p k ms g r (cost k p + per_frame p k ms g r (suc (suc (length fs)))) (return_with p k b args v fs w) (return_with (written p k ms g r) no_contracts b' args v fs' (beside ss w))

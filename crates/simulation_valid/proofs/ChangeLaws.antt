@@ -33,7 +33,7 @@ use Rattle.splice_facts.specs.WellFormed.{Bounds, WellFormedValue, WellFormedVal
 use Rattle.splice_facts.specs.Related.{Rewritten, ValidFrame, ValidFrames, HeightsBelow, HasResult, bounds, in_group, count_groups}
 use Rattle.simulation_objects.proofs.StoredLaws.{boxed_fine, struct_fine, fields_fine, get_fine, cell_there, object_fine, static_cells_fine}
 use Rattle.simulation_valid.specs.Changes.{LocalChange, ChangedFrame, ChangedFrames, Written}
-use Rattle.simulation_valid.specs.Keeping.{StructThere, AllReturn, CountsResult, ReturnsAsNamed, Placed, PlacedAt, TailHeights}
+use Rattle.simulation_valid.specs.Keeping.{StructThere, AllReturn, CountsResult, ReturnsFully, Placed, PlacedAt, TailHeights}
 use Rattle.simulation_valid.proofs.WorldLaws.{WellFormedEntry, statics_found, statics_set}
 use Rattle.simulation_valid.proofs.PushValidLaws.{counted_moved}
 use Rattle.simulation_valid.specs.Steps.{NextHeight}
@@ -305,8 +305,8 @@ module _ (p : Program) (k : Contracts) (ms : List MethodDesc) (g : AddedNumbers)
   valid_changed [] (h ∷ hs) c v = absurd c
   valid_changed (f ∷ fs) [] c v = absurd c
 
-  pub return_changed : (f h : Frame) → ChangedFrame Bs f h → ReturnsAsNamed p f → ReturnsAsNamed p h
-  return_changed f h c v = subst (ReturnsAsNamed p) (sym c.same) (v.0, struct_stays f.continuation f.local.args (c.local).args (c.change).args v.1)
+  pub return_changed : (f h : Frame) → ChangedFrame Bs f h → ReturnsFully p f → ReturnsFully p h
+  return_changed f h c v = subst (ReturnsFully p) (sym c.same) (v.0, struct_stays f.continuation f.local.args (c.local).args (c.change).args v.1)
 
   pub counted_changed : (f h : Frame) → ChangedFrame Bs f h → CountsResult p f f.at → CountsResult p h h.at
   counted_changed f h c v = subst (λ (z : Frame). CountsResult p z z.at) (sym c.same) (same_counted p f.at f c.local (c.change).result v)

@@ -24,7 +24,7 @@ use Rattle.cil_semantics.specs.Returns.{result_type, kept_as}
 use Rattle.splice_facts.specs.Input.{is_group, top_of}
 use Rattle.splice_facts.specs.Spliced.{AreLow, Current, FitsGroup}
 use Rattle.splice_facts.specs.Related.{Rewritten, Valid, ValidFrame, ValidFrames, HeightsBelow, HasHeight, FitsAt, HasResult, written, in_group, count_groups}
-use Rattle.simulation_valid.specs.Keeping.{ReturnsAsNamed, CountsResult, StaysValid, MayArrive}
+use Rattle.simulation_valid.specs.Keeping.{ReturnsFully, CountsResult, StaysValid, MayArrive}
 
 -- what is kept of what is kept is the same
 kept_twice : (t : Handling → Bool) (hs : List Handling) → filter t (filter t hs) ≡ filter t hs
@@ -61,7 +61,7 @@ one_there : (o : Option Value) (b : Bool) → b ≡ false → length (top_of o) 
 one_there None b e q = let z : 0 ≡ 1 = q ∙ ap (λ (c : Bool). if c then 0 else 1) e in absurd (omega (arith, z))
 one_there (Some v) b e q = refl
 
-has_result : (p : Program) (at : ProgramPoint) (f : Frame) → ReturnsAsNamed p f → CountsResult p f at → HasResult p f at
+has_result : (p : Program) (at : ProgramPoint) (f : Frame) → ReturnsFully p f → CountsResult p f at → HasResult p f at
 has_result p (LeadIn q) f n h = tt
 has_result p (Rest q) f n h = tt
 has_result p (InGroup group.Entry j q) f n h = tt

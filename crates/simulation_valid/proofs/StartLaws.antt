@@ -30,7 +30,7 @@ no_arguments p j = tt
 
 module _ (p : Program) (k : Contracts) (ms : List MethodDesc) (g : AddedNumbers) (r : Rewritten p k ms g) where
   nothing_beside : (rs : List Reply) → Beside p k (with_methods p ms) g r.types r.depths (empty_world rs) []
-  nothing_beside rs = record { statics = refl; depth = refl; bare = refl }
+  nothing_beside rs = record { statics = refl; depth = refl; bare = refl; failures = tt }
 
   pub starts_alike : (m : ℕ) (args : List Value) (rs : List Reply) → m < r.methods → ReachesIn p k ms g r (cost k p + per_frame p k ms g r 2) (start p k m args rs) (start (written p k ms g r) no_contracts m args rs)
   starts_alike m args rs old =

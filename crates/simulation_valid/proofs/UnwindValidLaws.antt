@@ -27,7 +27,7 @@ use Rattle.splice_facts.specs.Input.{is_group, LandsAt}
 use Rattle.splice_facts.specs.Layout.{IsHere}
 use Rattle.splice_facts.specs.Related.{Rewritten, ValidFrame, ValidFrames, HeightsBelow, FitsAt, bounds, in_group, count_groups}
 use Rattle.simulation.proofs.PushLaws.{fits_moved}
-use Rattle.simulation_valid.specs.Keeping.{ReturnsAsNamed, CountsResult, AllReturn, StaysValid, ValidPlaces, ValidBelow, Placed, PlacedAt, ValidTail}
+use Rattle.simulation_valid.specs.Keeping.{ReturnsFully, CountsResult, AllReturn, StaysValid, ValidPlaces, ValidBelow, Placed, PlacedAt, ValidTail}
 use Rattle.simulation_valid.proofs.FrameLaws as Standing
 use Rattle.simulation_valid.proofs.FrameLaws.{stands_valid}
 use Rattle.simulation_valid.proofs.ArriveValidLaws.{below_same, piece_begins, rest_begins, group_begins}
@@ -181,7 +181,7 @@ module _ (p : Program) (k : Contracts) (ms : List MethodDesc) (g : AddedNumbers)
 
   -- ---- all frames
 
-  pub places_of : (h : Frame) (fs : List Frame) → ValidFrame p k ms g r h fs → ReturnsAsNamed p h → ValidPlaces p k ms g r h fs
+  pub places_of : (h : Frame) (fs : List Frame) → ValidFrame p k ms g r h fs → ReturnsFully p h → ValidPlaces p k ms g r h fs
   places_of h fs v as_named = record { old = v.stands.old; wide = v.stands.wide; initializes = v.stands.initializes; captured = v.captured; fine = v.fine; fine_back = v.fine_back; as_named = as_named }
 
   pub same_place : (at : ProgramPoint) → moved_to (place_in at) at ≡ at
@@ -190,7 +190,7 @@ module _ (p : Program) (k : Contracts) (ms : List MethodDesc) (g : AddedNumbers)
   same_place (Rest q) = refl
 
   -- an exception is thrown in the topmost frame
-  pub unwinds_top : (h : Frame) (fs : List Frame) (w : World) (x : ℕ) → IsHere (plan_at k p h.method) h.at → ValidFrame p k ms g r h fs → ReturnsAsNamed p h → ValidFrames p k ms g r fs → AllReturn p fs → HeightsBelow p k ms g r h fs → WellWorld w → w.depth ≡ in_group h.at + count_groups fs → w.depth ≤ suc k.settings.guard → GoesDown h.continuation fs → Stays (unwind p k false (h ∷ fs) w x)
+  pub unwinds_top : (h : Frame) (fs : List Frame) (w : World) (x : ℕ) → IsHere (plan_at k p h.method) h.at → ValidFrame p k ms g r h fs → ReturnsFully p h → ValidFrames p k ms g r fs → AllReturn p fs → HeightsBelow p k ms g r h fs → WellWorld w → w.depth ≡ in_group h.at + count_groups fs → w.depth ≤ suc k.settings.guard → GoesDown h.continuation fs → Stays (unwind p k false (h ∷ fs) w x)
   unfolding unwind
   unwinds_top h fs w x here v as_named others returning heights ok count deep down =
       throws_valid h h.at h.handling 0 (place_in h.at) fs w x

@@ -27,7 +27,7 @@ use Rattle.cil_semantics.specs.Returns.{result_type}
 use Rattle.cil_semantics.specs.Checks.{AddedNumbers}
 use Rattle.machine_laws.specs.Answers.{is_below}
 use Rattle.splice_facts.specs.WellFormed.{WellFormedLocal, WellFormedWorld, WellFormedContinuation}
-use Rattle.splice_facts.specs.Input.{is_group, result_count, top_of}
+use Rattle.splice_facts.specs.Input.{is_group, result_count, top_of, ReturnsAsNamed}
 use Rattle.splice_facts.specs.Layout.{IsHere}
 use Rattle.splice_facts.specs.Spliced.{FitsGroup, AreLow}
 use Rattle.splice_facts.specs.Related.{Rewritten, Valid, ValidFrames, HeightsBelow, FitsAt, bounds, written, in_group, count_groups}
@@ -37,9 +37,9 @@ abbrev pub StructThere : Continuation → List Cell → Type 0
 StructThere PushStruct [] = ⊥
 StructThere _ cs = Unit {0}
 
--- with its type arguments a method returns a value just where it does without
-abbrev pub ReturnsAsNamed : Program → Frame → Type 0
-ReturnsAsNamed p f = (is_void (storage p (result_type p f)) ≡ is_void (storage p (method_of p f.method).result)) × StructThere f.continuation f.local.args
+-- a frame returns a value just where its method does, and a struct's constructor the struct
+abbrev pub ReturnsFully : Program → Frame → Type 0
+ReturnsFully p f = ReturnsAsNamed p f × StructThere f.continuation f.local.args
 
 -- where a value is checked at exit, the frame has what it returns
 abbrev pub CountsResult : Program → Frame → ProgramPoint → Type 0
@@ -50,7 +50,7 @@ CountsResult p f at = Unit {0}
 -- what the frames return has the number of values that those below them wait for
 abbrev pub AllReturn : Program → List Frame → Type 0
 AllReturn p [] = Unit {0}
-AllReturn p (f ∷ fs) = ReturnsAsNamed p f × CountsResult p f f.at × AllReturn p fs
+AllReturn p (f ∷ fs) = ReturnsFully p f × CountsResult p f f.at × AllReturn p fs
 
 -- no type argument is void (ECMA-335, II.23.2.14)
 abbrev pub NoneVoid : Program → List Ty → Type 0
@@ -84,7 +84,7 @@ module _ (p : Program) (k : Contracts) (ms : List MethodDesc) (g : AddedNumbers)
     pub captured : map (λ (c : Cell). c.ty) f.local.captured ≡ captured_tys p (here_of f fs) (plan_at k p f.method)
     pub fine : WellFormedLocal (bounds p k ms g r) f.local
     pub fine_back : WellFormedContinuation (bounds p k ms g r) f.continuation
-    pub as_named : ReturnsAsNamed p f
+    pub as_named : ReturnsFully p f
 
   -- the frames below one, and the world
   pub record ValidBelow (f : Frame) (fs : List Frame) (w : World) : Type 0 where

@@ -54,7 +54,7 @@ use Rattle.splice_facts.specs.Layout.{IsHere, fetch}
 use Rattle.splice_facts.specs.Spliced.{FitsGroup, AreLow, cost}
 use Rattle.splice_facts.specs.Related.{Rewritten, ReachesIn, ValidFrame, ValidFrames, HeightsBelow, HasHeight, bounds, written, per_frame, in_group, count_groups}
 use Rattle.simulation_valid.specs.Changes.{ChangedFrames}
-use Rattle.simulation_valid.specs.Keeping.{ReturnsAsNamed, CountsResult, AllReturn, StructThere, NoneVoid, DelegatesNamed, StaysValid, ValidPlaces, ValidBelow, ValidTail, TailHeights, Placed}
+use Rattle.simulation_valid.specs.Keeping.{ReturnsFully, CountsResult, AllReturn, StructThere, NoneVoid, DelegatesNamed, StaysValid, ValidPlaces, ValidBelow, ValidTail, TailHeights, Placed}
 
 module _ (p : Program) (k : Contracts) (ms : List MethodDesc) (g : AddedNumbers) (r : Rewritten p k ms g) where
   abbrev Bs : Bounds
@@ -63,7 +63,7 @@ module _ (p : Program) (k : Contracts) (ms : List MethodDesc) (g : AddedNumbers)
   -- what is known of the topmost frame and of those below it
   pub record Topmost (f : Frame) (fs : List Frame) (w : World) : Type 0 where
     pub frame : ValidFrame p k ms g r f fs
-    pub as_named : ReturnsAsNamed p f
+    pub as_named : ReturnsFully p f
     pub counted : CountsResult p f f.at
     pub below : ValidBelow p k ms g r f fs w
     pub count : w.depth ≡ in_group f.at + count_groups fs

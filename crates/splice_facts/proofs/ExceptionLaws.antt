@@ -1,6 +1,6 @@
 -- Exceptions that are kept stay objects while the heap grows.
 use Rattle.std.proofs.Common.{◌≡◌, ℕ, zero, suc, ◌+◌, ◌<◌, ◌≤◌, Bool, true, false, List, [], ◌∷◌, ◌++◌, length, Option, Some, None, refl, sym, ap, ◌∙◌, subst, arith}
-use Rattle.std.specs.Prelude.{slice_get, option_map, if◌then◌else◌}
+use Rattle.std.specs.Prelude.{slice_get, slice_set, option_map, if◌then◌else◌}
 use Rattle.cil_model.specs.declared.ty.Ty.{Ty}
 use Rattle.cil_model.specs.declared.program.Program.{Program}
 use Rattle.cil_semantics.specs.Words.{maybe}
@@ -56,6 +56,11 @@ new_object xs x = let e = one_longer xs x in (omega arith, omega (arith, e))
 
 pub longer : {A : Type 0} (xs : List A) (x : A) → length xs ≤ length (xs ++ x ∷ [])
 longer xs x = let e = one_longer xs x in omega (arith, e)
+
+pub set_long : {A : Type 0} (xs : List A) (k : ℕ) (x : A) → length (slice_set xs k x) ≡ length xs
+set_long [] k x = refl
+set_long (y ∷ ys) zero x = refl
+set_long (y ∷ ys) (suc k) x = ap suc (set_long ys k x)
 
 -- where each type is under System.Object, an object is an exception
 pub is_exception : (p : Program) (w : World) (x : ℕ) → ((t : Ty) → is_sub p t object_ty ≡ true) → IsObject (length w.heap) x → IsException p w x
