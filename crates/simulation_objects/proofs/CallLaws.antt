@@ -179,7 +179,7 @@ module _ (p : Program) (k : Contracts) (ms : List MethodDesc) (g : AddedNumbers)
   unfolding storage
   raises_here name fs fs' w ss z =
       Unwinding.reach_within p k ms g r (2 * cst + lay (length fs)) _ _ _ (omega arith)
-      (unwinds p k ms g r Push Push fs fs' z.under z.others (state.with_object p (record { ty = class_named name; cells = [] }) w) ss (state.next_object w) 
+      (unwinds p k ms g r Push Push fs fs' z.under z.others (state.with_object p (record { ty = class_named name; cells = [] }) w) ss (state.next_object w)
       (record { statics = (z.alike).statics; depth = (z.alike).depth; bare = (z.alike).bare; failures = more_failures (length w.heap) (length (state.with_object p (record { ty = class_named name; cells = [] }) w).heap) w.statics (longer w.heap (record { ty = class_named name; cells = [] })) (z.alike).failures })
       (new_object w.heap (record { ty = class_named name; cells = [] })) z.count z.deep)
 

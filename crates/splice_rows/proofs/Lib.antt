@@ -2,3 +2,4 @@ pub mod OneRequiresCode
 pub mod OneRequiresLaws
 mod FoundLaws
 mod WholeLaws
+mod RootLaws

@@ -31,7 +31,8 @@ use Rattle.cil_semantics.specs.Contracted.{Piece, Plan, effective_of}
 use Rattle.cil_semantics.specs.Frames.{Initializer, initializer, initializer_state, is_initializer, ToRun}
 use Rattle.cil_semantics.specs.Instructions.{act}
 use Rattle.cil_semantics.specs.Dispatch.{is_virtual, is_interface_kind, is_interface_at, is_interface}
-use Rattle.cil_semantics.specs.Lookups.{contract_exception, no_method, in_set, type_of, method_of}
+use Rattle.cil_semantics.specs.Core.{object_ty}
+use Rattle.cil_semantics.specs.Lookups.{contract_exception, no_method, in_set, type_of, method_of, is_sub}
 use Rattle.cil_semantics.specs.Numbers as number
 use Rattle.cil_semantics.specs.Places.{Truncated, storage, stored_in}
 use Rattle.cil_semantics.specs.Numbers.{B32}
@@ -47,6 +48,7 @@ use Rattle.splice_facts.specs.Related.{Rewritten, IsOwnClass}
 use Rattle.splice_facts.specs.Spliced.{Spliced}
 use Rattle.machine_laws.specs.Answers.{is_below}
 use Rattle.splice_rows.specs.OneRequires.{contracts, the_plan, input, output, numbers, written_methods, heights_here, marks_of, Meets}
+use Rattle.splice_rows.proofs.RootLaws.{Rooted, at_root, exception, rooted_from}
 use Rattle.splice_rows.proofs.FoundLaws.{OverridesNothing, each_at, found_below}
 use Rattle.splice_rows.proofs.OneRequiresCode.{depths, helpers, code, in_entry, never_called}
 use Rattle.splice_rows.proofs.OneRequiresLaws.{each, not_check, not_check_too, only, facts, spliced}
@@ -146,7 +148,7 @@ heights =
       keeps = λ at i h w l me here n e s. keeps at i here e h w l n s;
       checks = λ at i kd s rest here n e c len d. absurd (checks at i kd here n e c);
       handlers = λ at r c n here. absurd (omega (arith, c.1));
-      returns = λ f i v me here n e c r. has_one f.at i here e n c ∙ sym (one_value f v me r);
+      returns = λ f i v me named here n e c r. has_one f.at i here e n c ∙ sym (one_value f v me r);
     }
 
 -- ---- the whole program
@@ -299,6 +301,17 @@ members zero l = let e : 0 < 2 = omega arith in e
 members (suc zero) l = let e : 1 < 2 = omega arith in e
 members (suc (suc m)) l = absurd (omega (arith, l))
 
+bases : (k : ℕ) (args : List Ty) → Rooted 13 input (maybe object_ty (under args []) (type_of input k).base)
+unfolding everything
+bases = each_at (λ (d : TypeDesc). (args : List Ty) → Rooted 13 input (maybe object_ty (under args []) d.base)) input.types contract_exception (at_top, (at_top, (at_top, (at_top, (at_top, (at_top, tt)))))) (λ args. exception 12 input)
+  where
+    at_top : (args : List Ty) → Rooted 13 input object_ty
+    at_top args = at_root 13 input
+
+rooted : (t : Ty) → is_sub input t object_ty ≡ true
+unfolding is_sub everything
+rooted t = rooted_from 9 input bases t
+
 pub whole : Rewritten input contracts written_methods numbers
 unfolding everything
 whole =
@@ -313,6 +326,7 @@ whole =
       bodies = λ m l. (both m l).1;
       appended = no_contract;
       guard = let e : 4 ≤ 100 = omega arith in e;
+      rooted = rooted;
       owned = owned;
       exceptions = no_exceptions;
       members = members;
