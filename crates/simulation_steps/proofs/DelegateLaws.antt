@@ -135,7 +135,7 @@ module _ (p : Program) (k : Contracts) (ms : List MethodDesc) (g : AddedNumbers)
   calls_value : (gives : Bool) (f target : Value) (values : List Value) (b b' : Continuation) (fs fs' : List Frame) (w : World) (ss : List Statics) → WellFormedValue (bounds p k ms g r) f → hasnt_begun b ≡ false → hasnt_begun b' ≡ false → Behind b b' fs fs' w ss
       → To (cst + lay (suc (suc (length fs)))) (enter_function p k gives (out-Value f) target values b fs w) (enter_function p' no_contracts gives (out-Value f) target values b' fs' (beside ss w))
   unfolding Rattle.cil_model.specs.declared.value.Value.out-Value denote.Hole.Carrier.out
-  calls_value gives (val.Func m u) target values b b' fs fs' w ss fine nb nb' z = calls_function gives m u target values b b' fs fs' w ss fine nb nb' z
+  calls_value gives (val.Func m u) target values b b' fs fs' w ss fine nb nb' z = calls_function gives m u target values b b' fs fs' w ss fine.0 nb nb' z
   calls_value gives _ target values b b' fs fs' w ss fine nb nb' z = Arriving.stuck_both p k ms g r _ w ss z.alike
 
   -- ---- the object

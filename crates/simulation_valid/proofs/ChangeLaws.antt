@@ -306,7 +306,7 @@ module _ (p : Program) (k : Contracts) (ms : List MethodDesc) (g : AddedNumbers)
   valid_changed (f ∷ fs) [] c v = absurd c
 
   pub return_changed : (f h : Frame) → ChangedFrame Bs f h → ReturnsFully p f → ReturnsFully p h
-  return_changed f h c v = subst (ReturnsFully p) (sym c.same) (v.0, struct_stays f.continuation f.local.args (c.local).args (c.change).args v.1)
+  return_changed f h c v = subst (ReturnsFully p) (sym c.same) (v.0, struct_stays f.continuation f.local.args (c.local).args (c.change).args v.1, v.2, v.3)
 
   pub counted_changed : (f h : Frame) → ChangedFrame Bs f h → CountsResult p f f.at → CountsResult p h h.at
   counted_changed f h c v = subst (λ (z : Frame). CountsResult p z z.at) (sym c.same) (same_counted p f.at f c.local (c.change).result v)

@@ -23,18 +23,10 @@ use Rattle.splice_facts.specs.Related.{Rewritten, bounds}
 use Rattle.splice_facts.proofs.AskFrameLaws.{event_plain, trigger_plain}
 use Rattle.simulation_calls.proofs.CheckLaws.{KeepsHeap, ask_keeps}
 use Rattle.simulation_objects.proofs.StoredLaws.{same_reference}
-use Rattle.simulation_valid.specs.Keeping.{DelegatesNamed, StaysValid}
+use Rattle.simulation_valid.specs.Keeping.{StaysValid}
 use Rattle.simulation_valid.proofs.WorldLaws.{object_added}
 use Rattle.simulation_valid.proofs.AskValidLaws.{asks_valid}
 use Rattle.simulation_valid.specs.Steps.{ValidAnswer}
-
--- delegates are what the heap says
-pub delegates_stay : (p : Program) (v w : World) → v.heap ≡ w.heap → DelegatesNamed p w → DelegatesNamed p v
-delegates_stay p v w e h = λ x o d s t. h x o d (same_object x o s) t
-  where
-    same_object : (x : ℕ) (o : Object) → object_at v x ≡ Some o → object_at w x ≡ Some o
-    same_object zero o s = absurd (cc s)
-    same_object (suc i) o s = ap (λ hs. slice_get hs i) (sym e) ∙ s
 
 -- the message of a failure is well formed
 module _ (b : Bounds) where

@@ -20,7 +20,7 @@ use Rattle.cil_semantics.specs.Checks.{AddedNumbers}
 use Rattle.splice_facts.specs.Grown.{NamesLocals, NamesBelow}
 use Rattle.splice_facts.specs.Input.{is_group, never_in_clause}
 use Rattle.splice_facts.specs.WellFormed.{Bounds, WellFormedWorld}
-use Rattle.splice_facts.specs.Related.{Rewritten, bounds}
+use Rattle.splice_facts.specs.Related.{NamesInput, Rewritten, bounds}
 use Rattle.simulation_valid.specs.Keeping.{ValidPlaces}
 use Rattle.simulation_valid.specs.Steps.{FineAct, HandlerLeads, MayEnd, MayStep}
 use Rattle.simulation_valid.proofs.PlaceActLaws as place
@@ -47,7 +47,7 @@ module _ (p : Program) (k : Contracts) (ms : List MethodDesc) (g : AddedNumbers)
   ends_fine [] outer leads = tt
   ends_fine (h ∷ hs) outer leads = (outer, leads.0, leads.1)
 
-  module _ (i : Instr) (w : World) (world : WellFormedWorld Bs w) where
+  module _ (i : Instr) (w : World) (world : WellFormedWorld Bs w) (own : NamesInput p r.types r.methods (meaning_here p (here_of f fs) i)) where
     abbrev here : Here
     here = here_of f fs
 
@@ -69,7 +69,7 @@ module _ (p : Program) (k : Contracts) (ms : List MethodDesc) (g : AddedNumbers)
     classes_fine class.LoadString low outer may = object.texts_fine p k ms g r f fs places named
     classes_fine class.LoadToken low outer may = object.handles_fine p k ms g r f fs places named
     classes_fine class.SizeOf low outer may = object.sizes_fine p k ms g r f fs places named
-    classes_fine class.LoadFunction low outer may = object.functions_fine p k ms g r f fs places named may
+    classes_fine class.LoadFunction low outer may = object.functions_fine p k ms g r f fs places named own
     classes_fine class.Duplicate low outer may = place.duplicates_fine p k ms g r f fs places f.local.stack places.fine.stack
     classes_fine class.Pop low outer may = place.pops_fine p k ms g r f fs places f.local.stack places.fine.stack
     classes_fine (class.Binary op) low outer may = number.binary_fine p k ms g r f fs places op f.local.stack places.fine.stack
@@ -98,9 +98,9 @@ module _ (p : Program) (k : Contracts) (ms : List MethodDesc) (g : AddedNumbers)
     classes_fine class.LoadField low outer may = field.fields_load p k ms g r f fs places named w
     classes_fine class.FieldAddress low outer may = field.fields_point p k ms g r f fs places named w
     classes_fine class.StoreField low outer may = field.fields_store p k ms g r f fs places named w
-    classes_fine class.LoadStatic low outer may = field.statics_load p k ms g r f fs places named may
-    classes_fine class.StaticAddress low outer may = field.statics_point p k ms g r f fs places named may
-    classes_fine class.StoreStatic low outer may = field.statics_store p k ms g r f fs places named f.local.stack may places.fine.stack
+    classes_fine class.LoadStatic low outer may = field.statics_load p k ms g r f fs places named own
+    classes_fine class.StaticAddress low outer may = field.statics_point p k ms g r f fs places named own
+    classes_fine class.StoreStatic low outer may = field.statics_store p k ms g r f fs places named f.local.stack own places.fine.stack
     classes_fine class.NewArray low outer may = array.arrays_begin p k ms g r f fs places named f.local.stack w places.fine.stack
     classes_fine class.ArrayLength low outer may = array.lengths_fine p k ms g r f fs places f.local.stack w places.fine.stack
     classes_fine class.ElementAddress low outer may = array.items_point p k ms g r f fs places f.local.stack w places.fine.stack

@@ -39,7 +39,7 @@ use Rattle.simulation_valid.proofs.PushValidLaws.{arrives_from}
 use Rattle.simulation_valid.proofs.ChangeLaws.{cells_set, kept_fine}
 use Rattle.simulation_valid.proofs.MoveValidLaws.{relocal, goes_on_valid, pushes_on_valid}
 use Rattle.simulation_valid.proofs.ReturnValidLaws.{pieces_end}
-use Rattle.simulation_valid.proofs.CheckValidLaws.{delegates_stay, condition_fine, fails_valid}
+use Rattle.simulation_valid.proofs.CheckValidLaws.{condition_fine, fails_valid}
 use Rattle.simulation_valid.specs.Steps.{Leaves, RunsHere, MakesValid}
 
 -- what a condition leaves of the stack is what is left where the arguments are dropped
@@ -116,7 +116,7 @@ module _ (p : Program) (k : Contracts) (ms : List MethodDesc) (g : AddedNumbers)
   piece_passes : (c : Plan) (gr : Group) (j q : ℕ) (f : Frame) (l : Local) (fs : List Frame) (w v : World) → plan_at k p f.method ≡ Some c → f.at ≡ InGroup gr j q → RunsHere p k ms g r f fs w → ValidPlaces p k ms g r (record f { local = l }) fs → l.result ≡ f.local.result → WellFormedWorld Bs v → v.depth ≡ w.depth → v.heap ≡ w.heap → Stays (piece_over p k c gr j (record f { local = l }) fs v)
   piece_passes c gr j q f l fs w v e at a places same ok d h =
       let top1 = relocal p k ms g r f l fs w a.top places same in
-      pieces_end p k ms g r c gr j q (record f { local = l }) fs v e places (other_world (record f { local = l }) fs w v top1.below ok) a.placed (delegates_stay p v w h a.named) (d ∙ top1.count ∙ ap (λ z. in_group z + count_groups fs) at) (subst (λ n. n ≤ suc k.settings.guard) (sym d) top1.deep)
+      pieces_end p k ms g r c gr j q (record f { local = l }) fs v e places (other_world (record f { local = l }) fs w v top1.below ok) a.placed (d ∙ top1.count ∙ ap (λ z. in_group z + count_groups fs) at) (subst (λ n. n ≤ suc k.settings.guard) (sym d) top1.deep)
       (subst (λ z. FitsAt (Standing.Fits p k ms g r) z f.thrown) at a.top.frame.stands.fits) (subst (λ z. CountsResult p (record f { local = l }) z) at top1.counted)
 
   -- the call that ends a clause

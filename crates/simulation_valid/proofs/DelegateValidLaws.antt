@@ -29,7 +29,7 @@ use Rattle.splice_facts.specs.WellFormed.{Bounds, WellFormedValue, WellFormedVal
 use Rattle.splice_facts.specs.Related.{Rewritten, bounds}
 use Rattle.simulation_steps.proofs.DelegateLaws.{owner_below}
 use Rattle.simulation_objects.proofs.StoredLaws.{object_fine, cell_there}
-use Rattle.simulation_valid.specs.Keeping.{StructThere, NoneVoid, NamedFunction, DelegatesNamed, StaysValid}
+use Rattle.simulation_valid.specs.Keeping.{StructThere, NoneVoid, StaysValid}
 use Rattle.simulation_valid.proofs.EnterValidLaws.{enters_valid}
 use Rattle.simulation_valid.specs.Steps.{MayEnter}
 
@@ -81,31 +81,31 @@ module _ (p : Program) (k : Contracts) (ms : List MethodDesc) (g : AddedNumbers)
   abbrev pub MayEnterAny : Continuation → List Frame → World → Type 0
   MayEnterAny b fs w = (m : ℕ) → MayEnter p k ms g r b m fs w
 
-  function_enters : (gives : Bool) (f target : Value) (values : List Value) (b : Continuation) (fs : List Frame) (w : World) → WellFormedValue Bs f → NamedFunction p (out-Value f) → WellFormedValue Bs target → WellFormedValues Bs values → ((cells : List Cell) → StructThere b cells) → MayEnterAny b fs w
+  function_enters : (gives : Bool) (f target : Value) (values : List Value) (b : Continuation) (fs : List Frame) (w : World) → WellFormedValue Bs f → WellFormedValue Bs target → WellFormedValues Bs values → ((cells : List Cell) → StructThere b cells) → MayEnterAny b fs w
       → Stays (enter_function p k gives (out-Value f) target values b fs w)
   unfolding val.out-Value denote.Hole.Carrier.out
-  function_enters gives (val.Func m u) target values b fs w fine named ft fv there c =
+  function_enters gives (val.Func m u) target values b fs w fine ft fv there c =
       by_test (is_some (method_of p m).body && (not (type_of p (method_of p m).owner).reference && same_bool gives (gives_value p (owner_type p m u.type_args) m u.method_args)))
     where
       by_test : (t : Bool) → Stays (if t then enter p k (owner_type p m u.type_args) m u.method_args (delegate_values p (owner_type p m u.type_args) m target values) b fs w else stuck w)
       by_test true =
-          enters_valid p k ms g r (owner_type p m u.type_args) m u.method_args (delegate_values p (owner_type p m u.type_args) m target values) b fs w fine (owner_below p k ms g r m u.type_args fine) (owner_args p m u.type_args named.0) named.1 (values_fine (owner_type p m u.type_args) m target values ft fv) there (c m)
+          enters_valid p k ms g r (owner_type p m u.type_args) m u.method_args (delegate_values p (owner_type p m u.type_args) m target values) b fs w fine.0 (owner_below p k ms g r m u.type_args fine.0) (owner_args p m u.type_args fine.1) fine.2 (values_fine (owner_type p m u.type_args) m target values ft fv) there (c m)
       by_test false = tt
-  function_enters gives _ target values b fs w fine named ft fv there c = tt
+  function_enters gives _ target values b fs w fine ft fv there c = tt
 
-  pub delegate_enters : (gives : Bool) (o : Value-F Value) (values : List Value) (b : Continuation) (fs : List Frame) (w : World) → DelegatesNamed p w → WellFormedWorld Bs w → WellFormedValues Bs values → ((cells : List Cell) → StructThere b cells) → MayEnterAny b fs w → Stays (enter_delegate p k gives o values b fs w)
-  delegate_enters gives (Value-F.Obj x) values b fs w named ok fv there c = by_object (object_at w x) refl
+  pub delegate_enters : (gives : Bool) (o : Value-F Value) (values : List Value) (b : Continuation) (fs : List Frame) (w : World) → WellFormedWorld Bs w → WellFormedValues Bs values → ((cells : List Cell) → StructThere b cells) → MayEnterAny b fs w → Stays (enter_delegate p k gives o values b fs w)
+  delegate_enters gives (Value-F.Obj x) values b fs w ok fv there c = by_object (object_at w x) refl
     where
       by_parts : (o : Object) → object_at w x ≡ Some o → (d : Option (Value × Value)) → parts_of o.cells ≡ d → Stays (if_there d w (λ (y : Value × Value). enter_function p k gives (out-Value y.1) y.0 values b fs w))
       by_parts o e None q = tt
       by_parts o e (Some d) q =
           let fine = parts_fine Bs o.cells d (object_fine Bs w x o ok.heap e) q in
-          function_enters gives d.1 d.0 values b fs w fine.1 (named x o d e q) fine.0 fv there c
+          function_enters gives d.1 d.0 values b fs w fine.1 fine.0 fv there c
 
       by_object : (o : Option Object) → object_at w x ≡ o → Stays (if_there (option_and_then (λ (y : Object). parts_of y.cells) o) w (λ (y : Value × Value). enter_function p k gives (out-Value y.1) y.0 values b fs w))
       by_object None e = tt
       by_object (Some o) e = by_parts o e (parts_of o.cells) refl
-  delegate_enters gives _ values b fs w named ok fv there c = tt
+  delegate_enters gives _ values b fs w ok fv there c = tt
 
   -- what is tried next
   pub tried_fine : (w : World) (left : Remaining) (x : Value × Remaining) → WellFormedWorld Bs w → next_try w left ≡ Some x → WellFormedValue Bs x.0

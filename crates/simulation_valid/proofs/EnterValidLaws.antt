@@ -131,7 +131,7 @@ module _ (p : Program) (k : Contracts) (ms : List MethodDesc) (g : AddedNumbers)
   new_topmost owner m args cells b fs w old na nb fc there c =
       record {
         frame = new_valid owner m args cells b None fs old (λ t e. absurd (cc e)) fc c.fine_back;
-        as_named = (void_stays p (args_of owner) args na nb (method_of p m).result, there);
+        as_named = (void_stays p (args_of owner) args na nb (method_of p m).result, there, na, nb);
         counted = counted_first (new_frame owner m args cells b None fs) (plan_at k p m);
         below = record { others = c.tail.others; returning = c.tail.returning; heights = c.waiting (new_frame owner m args cells b None fs) refl refl; world = c.world };
         count = omega (arith, c.count, first_outside (plan_at k p m));
@@ -149,7 +149,7 @@ module _ (p : Program) (k : Contracts) (ms : List MethodDesc) (g : AddedNumbers)
       begins_valid f1 fs (with_begun p t w)
       (record {
         frame = new_valid t m [] [] b (Some t) fs old (λ u e. subst (λ z. IsTrue (is_below r.types z)) (some_inj t u e) own) tt fb;
-        as_named = (void_stays p (args_of t) [] na tt (method_of p m).result, there);
+        as_named = (void_stays p (args_of t) [] na tt (method_of p m).result, there, na, tt);
         counted = counted_first f1 (plan_at k p m);
         below = record { others = others; returning = returning; heights = heights f1 refl refl; world = begun_kept t w own ok };
         count = omega (arith, count, first_outside (plan_at k p m));

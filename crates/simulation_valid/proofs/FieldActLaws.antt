@@ -24,7 +24,8 @@ use Rattle.splice_facts.specs.WellFormed.{Bounds, WellFormedValue, WellFormedVal
 use Rattle.splice_facts.specs.Related.{Rewritten, bounds}
 use Rattle.simulation_objects.proofs.StoredLaws.{fields_fine, get_fine}
 use Rattle.simulation_valid.specs.Keeping.{NoneVoid, ValidPlaces}
-use Rattle.simulation_valid.specs.Steps.{FineAct, NamesInput}
+use Rattle.simulation_valid.specs.Steps.{FineAct}
+use Rattle.splice_facts.specs.Related.{NamesInput}
 use Rattle.simulation_valid.proofs.OperandLaws as operand
 use Rattle.simulation_valid.proofs.PlaceActLaws as place
 use Rattle.simulation_valid.proofs.UnwindValidLaws.{restacked}
@@ -84,7 +85,7 @@ module _ (p : Program) (k : Contracts) (ms : List MethodDesc) (g : AddedNumbers)
 
   -- ---- statics
 
-  on_static_fine : (m : Option Meaning) (go : Ty → Pointer → Act) → NamesInput p k ms g r m → ((t : Ty) (q : Pointer) → WellFormedPointer Bs q → IsTrue (is_below r.types t) → NoneVoid p (args_of t) → Fine (go t q)) → Fine (on_static p m go)
+  on_static_fine : (m : Option Meaning) (go : Ty → Pointer → Act) → NamesInput p r.types r.methods m → ((t : Ty) (q : Pointer) → WellFormedPointer Bs q → IsTrue (is_below r.types t) → NoneVoid p (args_of t) → Fine (go t q)) → Fine (on_static p m go)
   on_static_fine None go own h = tt
   on_static_fine (Some (OfField owner d)) go own h = by_kind (field_of p d).is_static (in_set (out-Ty owner))
     where
@@ -94,13 +95,13 @@ module _ (p : Program) (k : Contracts) (ms : List MethodDesc) (g : AddedNumbers)
       by_kind true (Some x) = h owner (Static owner d []) own.0 own.0 own.1
   on_static_fine (Some _) go own h = tt
 
-  pub statics_load : (m : Option Meaning) → NamesInput p k ms g r m → Fine (on_static p m (λ t q. UseStatic t (Read q) f.local))
+  pub statics_load : (m : Option Meaning) → NamesInput p r.types r.methods m → Fine (on_static p m (λ t q. UseStatic t (Read q) f.local))
   statics_load m own = on_static_fine m (λ t q. UseStatic t (Read q) f.local) own (λ t q fq low none. (places, refl, fq, low, none))
 
-  pub statics_point : (m : Option Meaning) → NamesInput p k ms g r m → Fine (on_static p m (λ t q. UseStatic t (PointTo q) f.local))
+  pub statics_point : (m : Option Meaning) → NamesInput p r.types r.methods m → Fine (on_static p m (λ t q. UseStatic t (PointTo q) f.local))
   statics_point m own = on_static_fine m (λ t q. UseStatic t (PointTo q) f.local) own (λ t q fq low none. (places, refl, fq, low, none))
 
-  pub statics_store : (m : Option Meaning) (s : List Value) → NamesInput p k ms g r m → WellFormedValues Bs s → Fine (on_top s (λ v rest. on_static p m (λ t q. UseStatic t (Write q v) (record f.local { stack = rest }))))
+  pub statics_store : (m : Option Meaning) (s : List Value) → NamesInput p r.types r.methods m → WellFormedValues Bs s → Fine (on_top s (λ v rest. on_static p m (λ t q. UseStatic t (Write q v) (record f.local { stack = rest }))))
   statics_store m s own h =
       operand.top_fine p k ms g r f fs s (λ v rest. on_static p m (λ t q. UseStatic t (Write q v) (record f.local { stack = rest }))) h
       (λ v rest fv fr. on_static_fine m (λ t q. UseStatic t (Write q v) (record f.local { stack = rest })) own (λ t q fq low none. (restacked p k ms g r f rest fs places fr, refl, (fq, fv), low, none)))

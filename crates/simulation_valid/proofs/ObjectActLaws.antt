@@ -26,7 +26,8 @@ use Rattle.splice_facts.specs.WellFormed.{Bounds, WellFormedValue, WellFormedVal
 use Rattle.splice_facts.specs.Related.{Rewritten, bounds}
 use Rattle.simulation_objects.proofs.StoredLaws.{boxed_fine, stored_fine, default_fine, object_fine, cell_there}
 use Rattle.simulation_valid.specs.Keeping.{ValidPlaces}
-use Rattle.simulation_valid.specs.Steps.{FineAct, NamesInput}
+use Rattle.simulation_valid.specs.Steps.{FineAct}
+use Rattle.splice_facts.specs.Related.{NamesInput}
 use Rattle.simulation_valid.proofs.OperandLaws as operand
 use Rattle.simulation_valid.proofs.PlaceActLaws as place
 use Rattle.simulation_valid.proofs.PointerActLaws as pointer
@@ -57,9 +58,9 @@ module _ (p : Program) (k : Contracts) (ms : List MethodDesc) (g : AddedNumbers)
       operand.type_fine p k ms g r f fs m (λ t. if_some (size_at (out-Ty t)) (λ n. goes_with f.local (I4 (pos n)) f.local.stack))
       (λ t. operand.some_fine p k ms g r f fs (size_at (out-Ty t)) (λ n. goes_with f.local (I4 (pos n)) f.local.stack) (λ n e. pushes (I4 (pos n)) f.local.stack tt places.fine.stack))
 
-  pub functions_fine : (m : Option Meaning) → NamesInput p k ms g r m → Fine (push_function m f.local)
+  pub functions_fine : (m : Option Meaning) → NamesInput p r.types r.methods m → Fine (push_function m f.local)
   functions_fine None own = tt
-  functions_fine (Some (OfMethod owner m args)) own = pushes (value.Func m (record { type_args = args_of owner; method_args = args })) f.local.stack own places.fine.stack
+  functions_fine (Some (OfMethod owner m args)) own = pushes (value.Func m (record { type_args = args_of owner; method_args = args })) f.local.stack (own.0, own.2, own.3) places.fine.stack
   functions_fine (Some _) own = tt
 
   -- ---- values of a type, through pointers

@@ -79,7 +79,7 @@ module _ (p : Program) (k : Contracts) (ms : List MethodDesc) (g : AddedNumbers)
   performs_valid Rethrow f fs w a v = rethrows_valid p k ms g r (innermost f.handling) f fs w a
   performs_valid (Leave t) f fs w a v = leaves_valid p k ms g r 0 (place_in f.at) t f f.handling fs w a v.0 (subst (IsHere (plan_at k p f.method)) (sym (same_place p k ms g r f.at)) a.here) (a.top.frame.current v.0).0 v.1
   performs_valid EndHandler f fs w a v = ends_handler f.handling f fs w refl a v
-  performs_valid Return f fs w a v = rets_valid p k ms g r f f.at fs w (places_of p k ms g r f fs a.top.frame a.top.as_named) a.top.below a.placed a.named a.top.count a.top.deep a.top.frame.stands.fits a.here
+  performs_valid Return f fs w a v = rets_valid p k ms g r f f.at fs w (places_of p k ms g r f fs a.top.frame a.top.as_named) a.top.below a.placed a.top.count a.top.deep a.top.frame.stands.fits a.here
   performs_valid (Load q h l) f fs w a v = loads_valid p k ms g r q h f l fs w a.top v.0 v.1
   performs_valid (Store q x l) f fs w a v = stores_valid p k ms g r q x f l fs w a.top v.0 v.1 v.2
   performs_valid (Copy to from h l) f fs w a v = copies_valid p k ms g r to from h f l fs w a.top v.0 v.1 v.2

@@ -82,7 +82,7 @@ module _ (p : Program) (k : Contracts) (ms : List MethodDesc) (g : AddedNumbers)
           captured = places.captured;
           fine = record { args = cells_set Bs f.local.args i d places.fine.args (fd d refl); locals = places.fine.locals; captured = places.fine.captured; result = places.fine.result; stack = h.1 };
           fine_back = places.fine_back;
-          as_named = (places.as_named.0, struct_stays f.continuation f.local.args (slice_set f.local.args i d) (length-set f.local.args i d) places.as_named.1);
+          as_named = (places.as_named.0, struct_stays f.continuation f.local.args (slice_set f.local.args i d) (length-set f.local.args i d) places.as_named.1, places.as_named.2, places.as_named.3);
         },
         refl,
       )

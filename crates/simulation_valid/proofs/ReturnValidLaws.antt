@@ -33,7 +33,7 @@ use Rattle.splice_facts.specs.Input.{top_of, result_count}
 use Rattle.splice_facts.specs.Related.{Rewritten, ValidFrames, HeightsBelow, HasHeight, FitsAt, bounds, in_group, count_groups}
 use Rattle.splice_facts.specs.Related as Pairs
 use Rattle.splice_facts.specs.Layout.{IsHere}
-use Rattle.simulation_valid.specs.Keeping.{StructThere, DelegatesNamed, CountsResult, StaysValid, ValidPlaces, ValidBelow, Placed}
+use Rattle.simulation_valid.specs.Keeping.{StructThere, CountsResult, StaysValid, ValidPlaces, ValidBelow, Placed}
 use Rattle.simulation_valid.proofs.FrameLaws as Standing
 use Rattle.simulation_valid.proofs.FrameLaws.{same_below}
 use Rattle.simulation_valid.proofs.ArriveValidLaws.{MayBegin, below_same, piece_begins, rest_begins, group_begins}
@@ -163,7 +163,7 @@ module _ (p : Program) (k : Contracts) (ms : List MethodDesc) (g : AddedNumbers)
   -- ForAll and Exists try what is left, or tell their answer
   pub tries_valid : (e : Bool) (t : Value) (o : Option (Value × Remaining)) (l : Remaining) (m : ℕ) (fs : List Frame) (w : World) → ((x : Value × Remaining) → o ≡ Some x → WellFormedValue Bs x.0) → WellFormedValue Bs t → MayReturn p k ms g r m (TryNext e t l) fs w → Stays (try_next p k e t o fs w)
   tries_valid e t None l m fs w fx ft a = pushes_valid p k ms g r (Some (flag (not e))) fs w (given_of m (TryNext e t l) fs w a) (flag_fine (not e)) (next_tried m e t l fs w a)
-  tries_valid e t (Some x) l m fs w fx ft a = delegate_enters p k ms g r true (out-Value t) (x.0 ∷ []) (TryNext e t x.1) fs w a.named a.world (fx x refl, tt) (λ cells. tt) (λ n. waits_on e t l x.1 m n fs w a ft)
+  tries_valid e t (Some x) l m fs w fx ft a = delegate_enters p k ms g r true (out-Value t) (x.0 ∷ []) (TryNext e t x.1) fs w a.world (fx x refl, tt) (λ cells. tt) (λ n. waits_on e t l x.1 m n fs w a ft)
 
   answers : (e : Bool) (t : Value) (l : Remaining) (o : Option Bool) (m : ℕ) (fs : List Frame) (w : World) → MayReturn p k ms g r m (TryNext e t l) fs w → Stays (tried p k e t l o fs w)
   answers e t l None m fs w a = tt
@@ -194,7 +194,6 @@ module _ (p : Program) (k : Contracts) (ms : List MethodDesc) (g : AddedNumbers)
     pub places : ValidPlaces p k ms g r h fs
     pub below : ValidBelow p k ms g r h fs w
     pub placed : Placed p k ms g r h.continuation fs
-    pub named : DelegatesNamed p w
     pub count : w.depth ≡ count_groups fs
     pub deep : w.depth ≤ suc k.settings.guard
 
@@ -205,7 +204,6 @@ module _ (p : Program) (k : Contracts) (ms : List MethodDesc) (g : AddedNumbers)
         waiting = λ f c d. same_below p k ms g r h f fs d c a.below.heights;
         world = a.below.world;
         fine_back = a.places.fine_back;
-        named = a.named;
         count = a.count;
         deep = a.deep;
       }
@@ -239,16 +237,16 @@ module _ (p : Program) (k : Contracts) (ms : List MethodDesc) (g : AddedNumbers)
       by_thrown (Some x) = ends p k ms g r h fs w x (unwinds p k ms g r h.continuation fs (awaited_by h fs w a).tail) a.places.initializes a.below.world a.count a.deep
   groups_end c group.Inline h fs w j q e a fits many = tt
 
-  lowered_end : (h : Frame) (fs : List Frame) (w : World) → ValidPlaces p k ms g r h fs → ValidBelow p k ms g r h fs w → Placed p k ms g r h.continuation fs → DelegatesNamed p w → w.depth ≡ 1 + count_groups fs → w.depth ≤ suc k.settings.guard → AtEnd h fs (lowered w)
-  lowered_end h fs w places below placed named count deep =
-      record { places = places; below = lowered_below p k ms g r h h fs w refl refl below; placed = placed; named = λ x o d s t. named x o d s t; count = omega (arith, count); deep = omega (arith, deep) }
+  lowered_end : (h : Frame) (fs : List Frame) (w : World) → ValidPlaces p k ms g r h fs → ValidBelow p k ms g r h fs w → Placed p k ms g r h.continuation fs → w.depth ≡ 1 + count_groups fs → w.depth ≤ suc k.settings.guard → AtEnd h fs (lowered w)
+  lowered_end h fs w places below placed count deep =
+      record { places = places; below = lowered_below p k ms g r h h fs w refl refl below; placed = placed; count = omega (arith, count); deep = omega (arith, deep) }
 
   -- behind a piece the next one begins, or the group is over
-  pub pieces_end : (c : Plan) (gr : Group) (j q : ℕ) (h : Frame) (fs : List Frame) (w : World) → plan_at k p h.method ≡ Some c → ValidPlaces p k ms g r h fs → ValidBelow p k ms g r h fs w → Placed p k ms g r h.continuation fs → DelegatesNamed p w → w.depth ≡ 1 + count_groups fs → w.depth ≤ suc k.settings.guard → Fits gr h.thrown → CountsResult p h (InGroup gr j q) → Stays (piece_over p k c gr j h fs w)
-  pieces_end c gr j q h fs w e places below placed named count deep fits many = by_next (next_piece p c gr (j + 1) h fs w)
+  pub pieces_end : (c : Plan) (gr : Group) (j q : ℕ) (h : Frame) (fs : List Frame) (w : World) → plan_at k p h.method ≡ Some c → ValidPlaces p k ms g r h fs → ValidBelow p k ms g r h fs w → Placed p k ms g r h.continuation fs → w.depth ≡ 1 + count_groups fs → w.depth ≤ suc k.settings.guard → Fits gr h.thrown → CountsResult p h (InGroup gr j q) → Stays (piece_over p k c gr j h fs w)
+  pieces_end c gr j q h fs w e places below placed count deep fits many = by_next (next_piece p c gr (j + 1) h fs w)
     where
       by_next : (o : Option (ℕ × Piece)) → Stays (begin_piece p gr o h fs w (group_over p k c gr h fs (lowered w)))
-      by_next None = groups_end c gr h fs (lowered w) j q e (lowered_end h fs w places below placed named count deep) fits many
+      by_next None = groups_end c gr h fs (lowered w) j q e (lowered_end h fs w places below placed count deep) fits many
       by_next (Some x) = piece_begins p k ms g r h gr x.0 x.1.from (with_stack h.local []) fs w (restacked p k ms g r h [] fs places tt) below fits (counted_group p gr h j q x.0 x.1.from many) count deep
 
   -- ---- ret
@@ -259,17 +257,16 @@ module _ (p : Program) (k : Contracts) (ms : List MethodDesc) (g : AddedNumbers)
         places = record { old = a.places.old; wide = a.places.wide; initializes = a.places.initializes; captured = a.places.captured; fine = record { args = a.places.fine.args; locals = a.places.fine.locals; captured = a.places.fine.captured; result = fv; stack = a.places.fine.stack }; fine_back = a.places.fine_back; as_named = a.places.as_named };
         below = below_same p k ms g r h (with_local (record h.local { result = v }) h) fs w refl refl a.below;
         placed = a.placed;
-        named = a.named;
         count = a.count;
         deep = a.deep;
       }
 
-  pub rets_valid : (h : Frame) (at : ProgramPoint) (fs : List Frame) (w : World) → ValidPlaces p k ms g r h fs → ValidBelow p k ms g r h fs w → Placed p k ms g r h.continuation fs → DelegatesNamed p w → w.depth ≡ in_group at + count_groups fs → w.depth ≤ suc k.settings.guard → FitsAt Fits at h.thrown → IsHere (plan_at k p h.method) at
+  pub rets_valid : (h : Frame) (at : ProgramPoint) (fs : List Frame) (w : World) → ValidPlaces p k ms g r h fs → ValidBelow p k ms g r h fs w → Placed p k ms g r h.continuation fs → w.depth ≡ in_group at + count_groups fs → w.depth ≤ suc k.settings.guard → FitsAt Fits at h.thrown → IsHere (plan_at k p h.method) at
       → Stays (if_there (returned p h h.local.stack) w (λ v. return_from p k (plan_at k p h.method) at (with_local (record h.local { result = v }) h) fs w))
-  rets_valid h at fs w places below placed named count deep fits here = by_value (returned p h h.local.stack) refl
+  rets_valid h at fs w places below placed count deep fits here = by_value (returned p h h.local.stack) refl
     where
       ended : in_group at ≡ 0 → AtEnd h fs w
-      ended z = record { places = places; below = below; placed = placed; named = named; count = omega (arith, count, z); deep = deep }
+      ended z = record { places = places; below = below; placed = placed; count = omega (arith, count, z); deep = deep }
 
       from : (o : Option Plan) (to : ProgramPoint) (v : Option Value) → plan_at k p h.method ≡ o → IsHere o to → (in_group to ≡ 0 → AtEnd (with_local (record h.local { result = v }) h) fs w) → FitsAt Fits to h.thrown → length (top_of v) ≡ result_count p h.method → w.depth ≡ in_group to + count_groups fs → Stays (return_from p k o to (with_local (record h.local { result = v }) h) fs w)
       from None (LeadIn q) v e hr a ft many ct = frame_returns (with_local (record h.local { result = v }) h) fs w (a refl) many

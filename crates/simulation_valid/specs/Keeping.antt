@@ -26,6 +26,7 @@ use Rattle.cil_semantics.specs.Places.{storage, is_void}
 use Rattle.cil_semantics.specs.Returns.{result_type}
 use Rattle.cil_semantics.specs.Checks.{AddedNumbers}
 use Rattle.machine_laws.specs.Answers.{is_below}
+pub use Rattle.splice_facts.specs.WellFormed.{NoneVoid}
 use Rattle.splice_facts.specs.WellFormed.{WellFormedLocal, WellFormedWorld, WellFormedContinuation}
 use Rattle.splice_facts.specs.Input.{is_group, result_count, top_of, ReturnsAsNamed}
 use Rattle.splice_facts.specs.Layout.{IsHere}
@@ -37,9 +38,9 @@ abbrev pub StructThere : Continuation → List Cell → Type 0
 StructThere PushStruct [] = ⊥
 StructThere _ cs = Unit {0}
 
--- a frame returns a value just where its method does, and a struct's constructor the struct
+-- a frame returns a value just where its method does, and a struct's constructor the struct; none of its type arguments is void
 abbrev pub ReturnsFully : Program → Frame → Type 0
-ReturnsFully p f = ReturnsAsNamed p f × StructThere f.continuation f.local.args
+ReturnsFully p f = ReturnsAsNamed p f × StructThere f.continuation f.local.args × NoneVoid p f.type_args × NoneVoid p f.method_args
 
 -- where a value is checked at exit, the frame has what it returns
 abbrev pub CountsResult : Program → Frame → ProgramPoint → Type 0
@@ -51,19 +52,6 @@ CountsResult p f at = Unit {0}
 abbrev pub AllReturn : Program → List Frame → Type 0
 AllReturn p [] = Unit {0}
 AllReturn p (f ∷ fs) = ReturnsFully p f × CountsResult p f f.at × AllReturn p fs
-
--- no type argument is void (ECMA-335, II.23.2.14)
-abbrev pub NoneVoid : Program → List Ty → Type 0
-NoneVoid p [] = Unit {0}
-NoneVoid p (t ∷ ts) = (is_void (storage p t) ≡ false) × NoneVoid p ts
-
-abbrev pub NamedFunction : Program → Value-F Value → Type 0
-NamedFunction p (Value-F.Func m u) = NoneVoid p u.type_args × NoneVoid p u.method_args
-NamedFunction p _ = Unit {0}
-
--- the function of each delegate has no void among its type arguments
-abbrev pub DelegatesNamed : Program → World → Type 0
-DelegatesNamed p w = (x : ℕ) (o : Object) (d : Value × Value) → object_at w x ≡ Some o → parts_of o.cells ≡ Some d → NamedFunction p (out-Value d.1)
 
 module _ (p : Program) (k : Contracts) (ms : List MethodDesc) (g : AddedNumbers) (r : Rewritten p k ms g) where
   -- what each step keeps

@@ -54,7 +54,7 @@ use Rattle.splice_facts.specs.Layout.{IsHere, fetch}
 use Rattle.splice_facts.specs.Spliced.{FitsGroup, AreLow, cost}
 use Rattle.splice_facts.specs.Related.{Rewritten, ReachesIn, ValidFrame, ValidFrames, HeightsBelow, HasHeight, bounds, written, per_frame, in_group, count_groups}
 use Rattle.simulation_valid.specs.Changes.{ChangedFrames}
-use Rattle.simulation_valid.specs.Keeping.{ReturnsFully, CountsResult, AllReturn, StructThere, NoneVoid, DelegatesNamed, StaysValid, ValidPlaces, ValidBelow, ValidTail, TailHeights, Placed}
+use Rattle.simulation_valid.specs.Keeping.{ReturnsFully, CountsResult, AllReturn, StructThere, NoneVoid, StaysValid, ValidPlaces, ValidBelow, ValidTail, TailHeights, Placed}
 
 module _ (p : Program) (k : Contracts) (ms : List MethodDesc) (g : AddedNumbers) (r : Rewritten p k ms g) where
   abbrev Bs : Bounds
@@ -105,7 +105,6 @@ module _ (p : Program) (k : Contracts) (ms : List MethodDesc) (g : AddedNumbers)
     pub waiting : (f : Frame) → f.continuation ≡ b → f.method ≡ m → HeightsBelow p k ms g r f fs
     pub world : WellFormedWorld Bs w
     pub fine_back : WellFormedContinuation Bs b
-    pub named : DelegatesNamed p w
     pub count : w.depth ≡ count_groups fs
     pub deep : w.depth ≤ suc k.settings.guard
 
@@ -114,7 +113,6 @@ module _ (p : Program) (k : Contracts) (ms : List MethodDesc) (g : AddedNumbers)
     pub top : Topmost f fs w
     pub here : IsHere (plan_at k p f.method) f.at
     pub placed : Placed p k ms g r f.continuation fs
-    pub named : DelegatesNamed p w
 
   -- where a failed Requires<E> makes its exception, what is made is valid
   abbrev pub MakesValid : Failure → Sequel → List Frame → ℕ → Type 0
@@ -191,18 +189,8 @@ module _ (p : Program) (k : Contracts) (ms : List MethodDesc) (g : AddedNumbers)
   HandlerLeads f [] = Unit {0}
   HandlerLeads f (h ∷ hs) = IsHere (plan_at k p f.method) (moved_to h.place f.at) × MayResume f h.cause
 
-  -- a field or a method that a token names is of the input, and no type argument of the field's owner is void
-  abbrev pub NamesInput : Option Meaning → Type 0
-  NamesInput (Some (OfField owner field)) = IsTrue (is_below r.types owner) × NoneVoid p (args_of owner)
-  NamesInput (Some (OfMethod owner method args)) = method < r.methods
-  NamesInput m = Unit {0}
-
-  -- What is asked of an instruction by its class (ECMA-335, Partition III): where it takes a function or a static, what its token names; where a handler ends, where that leads; of a call that it is stuck, and so calls nothing.
+  -- What is asked of an instruction by its class (ECMA-335, Partition III): where a handler ends, where that leads; of a call that it is stuck, and so calls nothing.
   abbrev pub MayStep : Instr → Frame → List Frame → World → Class → Type 0
-  MayStep i f fs w class.LoadFunction = NamesInput (meaning_here p (here_of f fs) i)
-  MayStep i f fs w class.LoadStatic = NamesInput (meaning_here p (here_of f fs) i)
-  MayStep i f fs w class.StaticAddress = NamesInput (meaning_here p (here_of f fs) i)
-  MayStep i f fs w class.StoreStatic = NamesInput (meaning_here p (here_of f fs) i)
   MayStep i f fs w class.EndFinally = HandlerLeads f f.handling
   MayStep i f fs w class.Call = FineAct f fs (act_of_class p (here_of f fs) i w f.local class.Call)
   MayStep i f fs w class.CallVirtual = FineAct f fs (act_of_class p (here_of f fs) i w f.local class.CallVirtual)
@@ -263,7 +251,7 @@ module _ (p : Program) (k : Contracts) (ms : List MethodDesc) (g : AddedNumbers)
 
   abbrev pub PiecesEndValid : Type 0
   PiecesEndValid =
-      (c : Plan) (gr : Group) (j q : ℕ) (h : Frame) (fs : List Frame) (w : World) → plan_at k p h.method ≡ Some c → ValidPlaces p k ms g r h fs → ValidBelow p k ms g r h fs w → Placed p k ms g r h.continuation fs → DelegatesNamed p w → w.depth ≡ 1 + count_groups fs → w.depth ≤ suc k.settings.guard → FitsGroup p k (written p k ms g r) g r.types r.depths gr h.thrown → CountsResult p h (InGroup gr j q)
+      (c : Plan) (gr : Group) (j q : ℕ) (h : Frame) (fs : List Frame) (w : World) → plan_at k p h.method ≡ Some c → ValidPlaces p k ms g r h fs → ValidBelow p k ms g r h fs w → Placed p k ms g r h.continuation fs → w.depth ≡ 1 + count_groups fs → w.depth ≤ suc k.settings.guard → FitsGroup p k (written p k ms g r) g r.types r.depths gr h.thrown → CountsResult p h (InGroup gr j q)
       → StaysValid p k ms g r (piece_over p k c gr j h fs w)
 
   abbrev pub AsksValid : Type 0

@@ -9,7 +9,9 @@ use Rattle.cil_model.specs.declared.contract.Group.{Group}
 use Rattle.cil_model.specs.declared.contract.Group.TheVariants as group
 use Rattle.cil_model.specs.NoContracts.{no_contracts}
 use Rattle.cil_semantics.specs.declared.state.Cell.{Cell}
-use Rattle.cil_semantics.specs.Tokens.{Here, ref_type, local_tys}
+use Rattle.cil_semantics.specs.Tokens.{Here, ref_type, local_tys, meaning_here}
+use Rattle.cil_model.specs.declared.program.Meaning.{Meaning}
+use Rattle.cil_model.specs.declared.program.Meaning.TheVariants.{OfField, OfMethod}
 use Rattle.cil_semantics.specs.declared.state.World.{World}
 use Rattle.cil_semantics.specs.declared.state.Statics.{Statics}
 use Rattle.cil_semantics.specs.declared.state.ProgramPoint.{ProgramPoint}
@@ -24,7 +26,7 @@ use Rattle.cil_semantics.specs.declared.state.Continuation.TheVariants.{Push, Pu
 use Rattle.cil_semantics.specs.Contracted.{Piece, Plan, effective_of}
 use Rattle.cil_semantics.specs.Unwind.{body_of, plan_at, piece_at, here_of, moved_to, next_place, unwind}
 use Rattle.cil_semantics.specs.Core.{object_ty}
-use Rattle.cil_semantics.specs.Lookups.{method_of, in_set, is_sub}
+use Rattle.cil_semantics.specs.Lookups.{method_of, in_set, is_sub, args_of}
 use Rattle.cil_semantics.specs.Places.{storage, is_reference}
 use Rattle.cil_semantics.specs.Dispatch.{Seen, methods_of}
 use Rattle.cil_semantics.specs.Calls.{body_seen}
@@ -44,7 +46,7 @@ use Rattle.splice_facts.specs.Acting.{WellFormedAct}
 use Rattle.splice_facts.specs.Bodies.{with_methods, SameMethods}
 use Rattle.splice_facts.specs.Grown.{beside}
 use Rattle.machine_laws.specs.Answers.{Each, is_below}
-use Rattle.splice_facts.specs.WellFormed.{Bounds, WellFormedLocal, WellFormedWorld, WellFormedContinuation}
+use Rattle.splice_facts.specs.WellFormed.{Bounds, NoneVoid, WellFormedLocal, WellFormedWorld, WellFormedContinuation}
 use Rattle.splice_facts.specs.Comes.{Reaches}
 use Rattle.splice_facts.specs.Exceptions.{IsObject, ThrowsObject}
 use Rattle.splice_facts.specs.Input.{InputFacts, StackHeights, result_count, access_count, is_group}
@@ -58,6 +60,12 @@ pub record IsOwnClass (p : Program) (types methods : ℕ) (t : Ty) : Type 0 wher
   pub below : IsTrue (is_below types t)
   pub reference : is_reference (storage p t) ≡ true
   pub members : Each (λ c. c < methods) (methods_of p t)
+
+-- A token of the input's code names what is of the input, with no void among type arguments (ECMA-335, II.23.2.14).
+abbrev pub NamesInput : Program → (types methods : ℕ) → Option Meaning → Type 0
+NamesInput p types methods (Some (OfField owner field)) = IsTrue (is_below types owner) × NoneVoid p (args_of owner)
+NamesInput p types methods (Some (OfMethod owner method args)) = (method < methods) × IsTrue (is_below types owner) × NoneVoid p (args_of owner) × NoneVoid p args
+NamesInput p types methods m = Unit {0}
 
 -- p is the input with the tables of the output: with the types, fields, methods and tokens that were appended, and with its own bodies.
 pub record Rewritten (p : Program) (k : Contracts) (ms : List MethodDesc) (g : AddedNumbers) : Type 0 where
@@ -80,6 +88,8 @@ pub record Rewritten (p : Program) (k : Contracts) (ms : List MethodDesc) (g : A
   -- the exception that a failed Requires<E> of the set makes is of the input
   pub exceptions : (m : ℕ) (plan : Plan) (gr : Group) (j : ℕ) (x : Piece) (here : Here) (t : Ty) (d : ℕ × List Ty) → m < methods → here.method ≡ m → plan_at k p m ≡ Some plan → piece_at (Some plan) gr j ≡ Some x → x.clause.kind ≡ kind.RequiresOf
       → option_and_then (ref_type p here) x.clause.exception ≡ Some t → in_set (out-Ty t) ≡ Some d → IsOwnClass p types methods t
+  -- what a token names for type arguments of which none is void
+  pub names : (m : ℕ) (at : ProgramPoint) (i : Instr) (here : Here) → m < methods → here.method ≡ m → NoneVoid p here.type_args → NoneVoid p here.method_args → IsHere (plan_at k p m) at → fetch p k g (plan_at k p m) m at ≡ Some i → NamesInput p types methods (meaning_here p here i)
   -- a method of the input belongs to a type of the input
   pub members : (m : ℕ) → m < methods → (method_of p m).owner < types
   -- what was appended overrides and implements nothing: the body that a method of the input has for a type is one of the input
@@ -160,7 +170,7 @@ module _ (p : Program) (k : Contracts) (ms : List MethodDesc) (g : AddedNumbers)
   abbrev pub bounds : Bounds
   bounds =
       let here : ℕ → Here = λ m. record { number = 0; method = m; type_args = []; method_args = [] } in
-      record { width = λ m. length (local_tys p (here m) (body_of p m).locals) + length (clause_tys p (here m) (plan_at k p m)); types = r.types; methods = r.methods }
+      record { program = p; width = λ m. length (local_tys p (here m) (body_of p m).locals) + length (clause_tys p (here m) (plan_at k p m)); types = r.types; methods = r.methods }
 
   -- A frame and its twin, which stands at a new place.
   pub record FramePair (q : ℕ) (f : Frame) (fs : List Frame) (f' : Frame) : Type 0 where

@@ -1,6 +1,8 @@
--- What a run of the input can have in its places: no pointer to a local that the method lacks, no static of what was appended, and no method that was appended.
-use Rattle.std.specs.Prelude.{ℕ, ◌<◌, List, [], ◌∷◌, Option, Some, None, IsTrue}
+-- What a run of the input can have in its places: no pointer to a local that the method lacks, no static of what was appended, no method that was appended, and no function with void among its type arguments.
+use Rattle.std.specs.Prelude.{◌≡◌, ℕ, ◌<◌, false, List, [], ◌∷◌, Option, Some, None, IsTrue}
 use Rattle.cil_model.specs.declared.ty.Ty.{Ty}
+use Rattle.cil_model.specs.declared.program.Program.{Program}
+use Rattle.cil_semantics.specs.Places.{storage, is_void}
 use Rattle.cil_model.specs.declared.value.Value.{Value, Row_of-Value, end_of-Value, more_of-Value}
 use Rattle.cil_model.specs.declared.value.Value as val
 use Rattle.cil_model.specs.declared.value.Pointer.{Pointer}
@@ -16,8 +18,14 @@ use Rattle.cil_semantics.specs.declared.state.Continuation.TheVariants.{Push, Pu
 use Rattle.cil_semantics.specs.declared.state.Access.{Access}
 use Rattle.cil_semantics.specs.declared.state.Access.TheVariants.{Read, Write, PointTo}
 
+-- no type argument is void (ECMA-335, II.23.2.14)
+abbrev pub NoneVoid : Program → List Ty → Type 0
+NoneVoid p [] = Unit {0}
+NoneVoid p (t ∷ ts) = (is_void (storage p t) ≡ false) × NoneVoid p ts
+
 -- how many locals a frame of each method has, and how many types and methods the input has
 pub record Bounds : Type 0 where
+  pub program : Program
   pub width : ℕ → ℕ
   pub types : ℕ
   pub methods : ℕ
@@ -39,7 +47,7 @@ module _ (b : Bounds) where
     WellFormedValue (val.Text units) = Unit {0}
     WellFormedValue (val.Ptr q) = WellFormedPointer q
     WellFormedValue (val.Struct' shape parts) = AllWellFormed parts
-    WellFormedValue (val.Func m u) = m < b.methods
+    WellFormedValue (val.Func m u) = (m < b.methods) × NoneVoid b.program u.type_args × NoneVoid b.program u.method_args
     WellFormedValue (val.Opaque bytes) = Unit {0}
 
     pub AllWellFormed : {m : _} → Row_of-Value m → Type 0

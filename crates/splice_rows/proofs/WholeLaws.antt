@@ -37,14 +37,15 @@ use Rattle.cil_semantics.specs.Numbers as number
 use Rattle.cil_semantics.specs.Places.{Truncated, storage, stored_in}
 use Rattle.cil_semantics.specs.Numbers.{B32}
 use Rattle.cil_semantics.specs.Returns.{returned, kept_as}
-use Rattle.cil_semantics.specs.Tokens.{Here, ref_type}
+use Rattle.cil_semantics.specs.Tokens.{Here, ref_type, meaning_here}
 use Rattle.cil_semantics.specs.Types.{under}
 use Rattle.cil_semantics.specs.Unwind.{body_of, place_in, plan_at, piece_at}
 use Rattle.machine_rows.specs.Everything.{everything}
 use Rattle.splice_facts.specs.Bodies.{ButBody, SameMethods}
+use Rattle.splice_facts.specs.WellFormed.{NoneVoid}
 use Rattle.splice_facts.specs.Input.{InputFacts, StackHeights, LeavesHeight, is_group, top_of}
 use Rattle.splice_facts.specs.Layout.{IsHere, fetch}
-use Rattle.splice_facts.specs.Related.{Rewritten, IsOwnClass}
+use Rattle.splice_facts.specs.Related.{NamesInput, Rewritten, IsOwnClass}
 use Rattle.splice_facts.specs.Spliced.{Spliced}
 use Rattle.machine_laws.specs.Answers.{is_below}
 use Rattle.splice_rows.specs.OneRequires.{contracts, the_plan, input, output, numbers, written_methods, heights_here, marks_of, Meets}
@@ -301,6 +302,19 @@ members zero l = let e : 0 < 2 = omega arith in e
 members (suc zero) l = let e : 1 < 2 = omega arith in e
 members (suc (suc m)) l = absurd (omega (arith, l))
 
+named : (at : ProgramPoint) (i : Instr) → IsHere (Some the_plan) at → fetch input contracts numbers (Some the_plan) 0 at ≡ Some i → (h : Here) → NamesInput input 2 2 (meaning_here input h i)
+unfolding everything
+named at i here e =
+    each (λ at1 j. (h : Here) → NamesInput input 2 2 (meaning_here input h j)) (λ h. tt) (λ h. tt) (λ h. tt) (λ h. (let l : 1 < 2 = omega arith in l, refl, tt, tt)) (λ h. tt) (λ h. tt) (λ h. tt) (λ h. tt) at i here e
+
+names : (m : ℕ) (at : ProgramPoint) (i : Instr) (here : Here) → m < 2 → here.method ≡ m → NoneVoid input here.type_args → NoneVoid input here.method_args → IsHere (plan_at contracts input m) at → fetch input contracts numbers (plan_at contracts input m) m at ≡ Some i → NamesInput input 2 2 (meaning_here input here i)
+unfolding everything
+names zero at i here l me a b h e = named at i h e here
+names (suc zero) (LeadIn q) i here l me a b h e = absurd h
+names (suc zero) (InGroup gr j q) i here l me a b h e = absurd h
+names (suc zero) (Rest q) i here l me a b h e = let z : None ≡ Some i = e in absurd (cc z)
+names (suc (suc m)) at i here l me a b h e = absurd (omega (arith, l))
+
 bases : (k : ℕ) (args : List Ty) → Rooted 13 input (maybe object_ty (under args []) (type_of input k).base)
 unfolding everything
 bases = each_at (λ (d : TypeDesc). (args : List Ty) → Rooted 13 input (maybe object_ty (under args []) d.base)) input.types contract_exception (at_top, (at_top, (at_top, (at_top, (at_top, (at_top, tt)))))) (λ args. exception 12 input)
@@ -327,6 +341,7 @@ whole =
       appended = no_contract;
       guard = let e : 4 ≤ 100 = omega arith in e;
       rooted = rooted;
+      names = names;
       owned = owned;
       exceptions = no_exceptions;
       members = members;
