@@ -84,7 +84,7 @@ module _ (p : Program) (k : Contracts) (ms : List MethodDesc) (g : AddedNumbers)
         below = b.below;
         fits = fits;
         counted = tt;
-        low = λ no. tt;
+        low = λ no. (tt, tt);
         height = λ plan old q no. ap (λ s. length s + 0) empty ∙ sym (at_rest plan old q);
         count = omega (arith, b.count);
         deep = b.deep;

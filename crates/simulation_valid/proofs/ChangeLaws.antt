@@ -294,6 +294,7 @@ module _ (p : Program) (k : Contracts) (ms : List MethodDesc) (g : AddedNumbers)
         fine = c.fine v.fine;
         fine_back = v.fine_back;
         current = v.current;
+        leads = v.leads;
       }
 
   pub frame_changed : (f h : Frame) (fs gs : List Frame) → ChangedFrame Bs f h → length gs ≡ length fs → ValidFrame p k ms g r f fs → ValidFrame p k ms g r h gs

@@ -20,9 +20,9 @@ use Rattle.cil_semantics.specs.Checks.{AddedNumbers}
 use Rattle.splice_facts.specs.Grown.{NamesLocals, NamesBelow}
 use Rattle.splice_facts.specs.Input.{is_group, never_in_clause}
 use Rattle.splice_facts.specs.WellFormed.{Bounds, WellFormedWorld}
-use Rattle.splice_facts.specs.Related.{NamesInput, Rewritten, bounds}
+use Rattle.splice_facts.specs.Related.{HandlersLead, NamesInput, Rewritten, bounds}
 use Rattle.simulation_valid.specs.Keeping.{ValidPlaces}
-use Rattle.simulation_valid.specs.Steps.{FineAct, HandlerLeads, MayEnd, MayStep}
+use Rattle.simulation_valid.specs.Steps.{FineAct, MayEnd, MayStep}
 use Rattle.simulation_valid.proofs.PlaceActLaws as place
 use Rattle.simulation_valid.proofs.PointerActLaws as pointer
 use Rattle.simulation_valid.proofs.NumberActLaws as number
@@ -43,11 +43,11 @@ module _ (p : Program) (k : Contracts) (ms : List MethodDesc) (g : AddedNumbers)
   leaves_fine (Target t) outer = outer
   leaves_fine _ outer = tt
 
-  ends_fine : (hs : List Handling) → is_group f.at ≡ false → HandlerLeads p k ms g r f hs → MayEnd p k ms g r f hs
+  ends_fine : (hs : List Handling) → is_group f.at ≡ false → HandlersLead p k ms g r f.method f.at hs → MayEnd p k ms g r f hs
   ends_fine [] outer leads = tt
-  ends_fine (h ∷ hs) outer leads = (outer, leads.0, leads.1)
+  ends_fine (h ∷ hs) outer leads = (outer, leads.0.0, leads.0.1)
 
-  module _ (i : Instr) (w : World) (world : WellFormedWorld Bs w) (own : NamesInput p r.types r.methods (meaning_here p (here_of f fs) i)) where
+  module _ (i : Instr) (w : World) (world : WellFormedWorld Bs w) (own : NamesInput p r.types r.methods (meaning_here p (here_of f fs) i)) (leads : is_group f.at ≡ false → HandlersLead p k ms g r f.method f.at f.handling) where
     abbrev here : Here
     here = here_of f fs
 
@@ -108,7 +108,7 @@ module _ (p : Program) (k : Contracts) (ms : List MethodDesc) (g : AddedNumbers)
     classes_fine class.StoreTypedElement low outer may = array.typed_items_store p k ms g r f fs places named f.local.stack w places.fine.stack
     classes_fine (class.LoadElement h) low outer may = array.items_load p k ms g r f fs places h f.local.stack w places.fine.stack
     classes_fine (class.StoreElement h) low outer may = array.items_store p k ms g r f fs places h f.local.stack w places.fine.stack
-    classes_fine class.EndFinally low outer may = ends_fine f.handling (outer refl) may
+    classes_fine class.EndFinally low outer may = ends_fine f.handling (outer refl) (leads (outer refl))
     classes_fine class.Leave low outer may = leaves_fine i.operand (outer refl)
     classes_fine class.Call low outer may = may
     classes_fine class.CallVirtual low outer may = may

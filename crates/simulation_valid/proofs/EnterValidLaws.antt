@@ -115,6 +115,7 @@ module _ (p : Program) (k : Contracts) (ms : List MethodDesc) (g : AddedNumbers)
         fine = record { args = fc; locals = defaults_fine Bs p (local_tys p here (body_of p m).locals ++ clause_tys p here (plan_at k p m)); captured = defaults_fine Bs p (captured_tys p here (plan_at k p m)); result = tt; stack = tt };
         fine_back = fb;
         current = λ e. (tt, refl);
+        leads = λ e. tt;
       }
 
   pub new_height : (owner : Ty) (m : ℕ) (args : List Ty) (cells : List Cell) (b : Continuation) (o : Option Ty) (fs : List Frame) → HasHeight p k ms g r (new_frame owner m args cells b o fs) (first_place (plan_at k p m)) 0
@@ -125,7 +126,7 @@ module _ (p : Program) (k : Contracts) (ms : List MethodDesc) (g : AddedNumbers)
   pub begins_valid : (f : Frame) (fs : List Frame) (w : World) → Topmost p k ms g r f fs w → HasHeight p k ms g r f f.at 0 → Stays (begin p k f fs w)
   begins_valid f fs w top height =
       arrives p k ms g r (plan_at k p f.method) f f.at f.local f.handling fs w refl
-      (record { places = places_of p k ms g r f fs top.frame top.as_named; below = top.below; fits = top.frame.stands.fits; counted = top.counted; low = λ e. (top.frame.current e).0; height = height; count = top.count; deep = top.deep })
+      (record { places = places_of p k ms g r f fs top.frame top.as_named; below = top.below; fits = top.frame.stands.fits; counted = top.counted; low = λ e. ((top.frame.current e).0, top.frame.leads e); height = height; count = top.count; deep = top.deep })
 
   new_topmost : (owner : Ty) (m : ℕ) (args : List Ty) (cells : List Cell) (b : Continuation) (fs : List Frame) (w : World) → m < r.methods → NoneVoid p (args_of owner) → NoneVoid p args → WellFormedCells Bs cells → StructThere b cells → MayEnter p k ms g r b m fs w → Topmost p k ms g r (new_frame owner m args cells b None fs) fs w
   new_topmost owner m args cells b fs w old na nb fc there c =

@@ -12,7 +12,10 @@ use Rattle.cil_semantics.specs.declared.state.ProgramPoint.{ProgramPoint}
 use Rattle.cil_semantics.specs.declared.state.ProgramPoint.TheVariants.{LeadIn, InGroup, Rest}
 use Rattle.cil_semantics.specs.declared.state.Handling.{Handling}
 use Rattle.cil_semantics.specs.declared.state.Frame.{Frame}
-use Rattle.cil_semantics.specs.Unwind.{body_of, in_handler, handled_at, goes_at}
+use Rattle.cil_semantics.specs.declared.state.Cause.{Cause}
+use Rattle.cil_semantics.specs.declared.state.Cause.TheVariants.{Caught, Unwinding, Leaving}
+use Rattle.cil_semantics.specs.Unwind.{body_of, plan_at, moved_to, in_handler, handled_at, goes_at}
+use Rattle.splice_facts.specs.Layout.{IsHere}
 use Rattle.cil_semantics.specs.Checks.{AddedNumbers}
 use Rattle.cil_model.specs.declared.ty.Ty.{Ty}
 use Rattle.cil_model.specs.declared.value.Value.{Value}
@@ -23,7 +26,7 @@ use Rattle.cil_semantics.specs.Places.{storage, is_void}
 use Rattle.cil_semantics.specs.Returns.{result_type, kept_as}
 use Rattle.splice_facts.specs.Input.{is_group, top_of}
 use Rattle.splice_facts.specs.Spliced.{AreLow, Current, FitsGroup}
-use Rattle.splice_facts.specs.Related.{Rewritten, Valid, ValidFrame, ValidFrames, HeightsBelow, HasHeight, FitsAt, HasResult, written, in_group, count_groups}
+use Rattle.splice_facts.specs.Related.{HandlersLead, CauseLeads, Rewritten, Valid, ValidFrame, ValidFrames, HeightsBelow, HasHeight, FitsAt, HasResult, written, in_group, count_groups}
 use Rattle.simulation_valid.specs.Keeping.{ReturnsFully, CountsResult, StaysValid, MayArrive}
 
 -- what is kept of what is kept is the same
@@ -91,6 +94,42 @@ module _ (p : Program) (k : Contracts) (ms : List MethodDesc) (g : AddedNumbers)
   current_at m (Rest q) hs h e = (low_kept m (in_handler (body_of p m).regions q) hs (h e), kept_twice (in_handler (body_of p m).regions q) hs)
   current_at m (InGroup gr j q) hs h e = absurd (cc e)
 
+  -- handlers lead on from each place of the same part
+  leads_kept : (m : ℕ) (at : ProgramPoint) (t : Handling → Bool) (hs : List Handling) → HandlersLead p k ms g r m at hs → HandlersLead p k ms g r m at (filter t hs)
+  leads_kept m at t [] h = tt
+  leads_kept m at t (x ∷ xs) h = by_test (t x) (leads_kept m at t xs h.1)
+    where
+      by_test : (b : Bool) → HandlersLead p k ms g r m at (filter t xs) → HandlersLead p k ms g r m at (if b then x ∷ filter t xs else filter t xs)
+      by_test true ih = (h.0, ih)
+      by_test false ih = ih
+
+  leads_at : (m : ℕ) (at : ProgramPoint) (hs : List Handling) → (is_group at ≡ false → HandlersLead p k ms g r m at hs) → is_group at ≡ false → HandlersLead p k ms g r m at (handled_at (body_of p m).regions at hs)
+  leads_at m (LeadIn q) hs h e = leads_kept m (LeadIn q) (in_handler (body_of p m).regions q) hs (h e)
+  leads_at m (Rest q) hs h e = leads_kept m (Rest q) (in_handler (body_of p m).regions q) hs (h e)
+  leads_at m (InGroup gr j q) hs h e = absurd (cc e)
+
+  cause_moved : (m : ℕ) (at : ProgramPoint) (t : ℕ) (c : Cause) → is_group at ≡ false → CauseLeads p k ms g r m at c → CauseLeads p k ms g r m (moved_to t at) c
+  cause_moved m (LeadIn q) t (Caught x) e h = tt
+  cause_moved m (LeadIn q) t (Unwinding x) e h = tt
+  cause_moved m (LeadIn q) t (Leaving u) e h = h
+  cause_moved m (Rest q) t (Caught x) e h = tt
+  cause_moved m (Rest q) t (Unwinding x) e h = tt
+  cause_moved m (Rest q) t (Leaving u) e h = h
+  cause_moved m (InGroup gr j q) t c e h = absurd (cc e)
+
+  place_moved : (m : ℕ) (at : ProgramPoint) (t u : ℕ) → is_group at ≡ false → IsHere (plan_at k p m) (moved_to u at) → IsHere (plan_at k p m) (moved_to u (moved_to t at))
+  place_moved m (LeadIn q) t u e h = h
+  place_moved m (Rest q) t u e h = h
+  place_moved m (InGroup gr j q) t u e h = absurd (cc e)
+
+  pub leads_moved : (m : ℕ) (at : ProgramPoint) (t : ℕ) (hs : List Handling) → is_group at ≡ false → HandlersLead p k ms g r m at hs → HandlersLead p k ms g r m (moved_to t at) hs
+  leads_moved m at t [] e h = tt
+  leads_moved m at t (x ∷ xs) e h = ((place_moved m at t x.place e h.0.0, cause_moved m at t x.cause e h.0.1), leads_moved m at t xs e h.1)
+
+  -- handlers that may be pending
+  abbrev pub pending : ℕ → ProgramPoint → List Handling → Type 0
+  pending m at hs = low m hs × HandlersLead p k ms g r m at hs
+
   -- the frames below look at a frame's method and at what happens when it ends
   pub same_below : (f h : Frame) (fs : List Frame) → h.method ≡ f.method → h.continuation ≡ f.continuation → HeightsBelow p k ms g r f fs → HeightsBelow p k ms g r h fs
   same_below f h [] e q x = tt
@@ -114,7 +153,8 @@ module _ (p : Program) (k : Contracts) (ms : List MethodDesc) (g : AddedNumbers)
               has_result = has_result p at f1 a.places.as_named at_place;
               fine = a.places.fine;
               fine_back = a.places.fine_back;
-              current = current_at h.method at hs a.low;
+              current = current_at h.method at hs (λ e. (a.low e).0);
+              leads = leads_at h.method at hs (λ e. (a.low e).1);
             },
             a.below.others,
           );

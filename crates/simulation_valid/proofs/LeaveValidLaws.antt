@@ -52,20 +52,20 @@ module _ (p : Program) (k : Contracts) (ms : List MethodDesc) (g : AddedNumbers)
   down_of : (f : Frame) (fs : List Frame) (w : World) → RunsHere p k ms g r f fs w → GoesDown p k ms g r f.continuation fs
   down_of f fs w a = unwinds p k ms g r f.continuation fs (tail_of p k ms g r f fs a.placed a.top.below.others a.top.below.returning a.top.below.heights)
 
-  throwing : (f : Frame) (hs : List Handling) (q : ℕ) (fs : List Frame) (w : World) → RunsHere p k ms g r f fs w → (is_group f.at ≡ false → IsHere (plan_at k p f.method) (moved_to q f.at)) → (is_group f.at ≡ false → Standing.low p k ms g r f.method hs) → Throwing p k ms g r f f.at hs q fs w
+  throwing : (f : Frame) (hs : List Handling) (q : ℕ) (fs : List Frame) (w : World) → RunsHere p k ms g r f fs w → (is_group f.at ≡ false → IsHere (plan_at k p f.method) (moved_to q f.at)) → (is_group f.at ≡ false → Standing.pending p k ms g r f.method f.at hs) → Throwing p k ms g r f f.at hs q fs w
   throwing f hs q fs w a there low =
       record { places = places_of p k ms g r f fs a.top.frame a.top.as_named; below = a.top.below; fits = a.top.frame.stands.fits; here = a.here; thrower = there; low = low; count = a.top.count; deep = a.top.deep; down = down_of f fs w a }
 
-  pub leaves_valid : (skip q t : ℕ) (f : Frame) (hs : List Handling) (fs : List Frame) (w : World) → RunsHere p k ms g r f fs w → is_group f.at ≡ false → IsHere (plan_at k p f.method) (moved_to q f.at) → Standing.low p k ms g r f.method hs → IsEmptyAt p k ms g r f t → Stays (leave p k skip q t f hs fs w)
+  pub leaves_valid : (skip q t : ℕ) (f : Frame) (hs : List Handling) (fs : List Frame) (w : World) → RunsHere p k ms g r f fs w → is_group f.at ≡ false → IsHere (plan_at k p f.method) (moved_to q f.at) → Standing.pending p k ms g r f.method f.at hs → IsEmptyAt p k ms g r f t → Stays (leave p k skip q t f hs fs w)
   leaves_valid skip q t f hs fs w a outer there low empty = by_finally (left_from skip 0 q t (body_of p f.method).regions) refl
     where
       by_finally : (o : Option (ℕ × Region)) → left_from skip 0 q t (body_of p f.method).regions ≡ o → Stays (leave_through p k o f hs q t fs w)
       by_finally None e = moves p k ms g r f t (with_stack f.local []) hs fs w a.top (restacked p k ms g r f [] fs (places_of p k ms g r f fs a.top.frame a.top.as_named) tt) refl (λ z. low) (λ plan old s z. sym (empty plan old s))
       by_finally (Some x) e =
           let lands = (r.input f.method a.top.frame.stands.old).left_lands f.at q skip t x a.here outer there e in
-          handler_begins p k ms g r f f.at [] (record { handler = x.0; cause = Leaving t; place = q; next = x.0 + 1 }) hs q x.1.handler_from fs w outer (throwing f hs q fs w a (λ z. there) (λ z. low)) lands.0 lands.1 tt (left_heights skip 0 q t (body_of p f.method).regions x e)
+          handler_begins p k ms g r f f.at [] (record { handler = x.0; cause = Leaving t; place = q; next = x.0 + 1 }) hs q x.1.handler_from fs w outer (throwing f hs q fs w a (λ z. there) (λ z. low)) lands.0 lands.1 (there, empty) tt (left_heights skip 0 q t (body_of p f.method).regions x e)
 
-  pub resumes_valid : (h : Handling) (hs : List Handling) (c : Cause) (f : Frame) (fs : List Frame) (w : World) → RunsHere p k ms g r f fs w → is_group f.at ≡ false → IsHere (plan_at k p f.method) (moved_to h.place f.at) → Standing.low p k ms g r f.method hs → MayResume p k ms g r f c → Stays (resume_cause p k h c hs f fs w)
+  pub resumes_valid : (h : Handling) (hs : List Handling) (c : Cause) (f : Frame) (fs : List Frame) (w : World) → RunsHere p k ms g r f fs w → is_group f.at ≡ false → IsHere (plan_at k p f.method) (moved_to h.place f.at) → Standing.pending p k ms g r f.method f.at hs → MayResume p k ms g r f c → Stays (resume_cause p k h c hs f fs w)
   resumes_valid h hs (Caught x) f fs w a outer there low may = tt
   resumes_valid h hs (Unwinding x) f fs w a outer there low may = throws_valid p k ms g r f f.at hs h.next h.place fs w x (throwing f hs h.place fs w a (λ z. there) (λ z. low))
   resumes_valid h hs (Leaving t) f fs w a outer there low may = leaves_valid h.next h.place t f hs fs w a outer there low may

@@ -90,6 +90,7 @@ module _ (p : Program) (k : Contracts) (ms : List MethodDesc) (g : AddedNumbers)
           fine = places.fine;
           fine_back = places.fine_back;
           current = top.frame.current;
+          leads = top.frame.leads;
         };
         as_named = places.as_named;
         counted = same_counted p f.at f l same top.counted;

@@ -24,7 +24,7 @@ use Rattle.machine_laws.specs.Answers.{is_below}
 use Rattle.splice_facts.specs.WellFormed.{Bounds, WellFormedObjects, WellFormedWorld, WellFormedAccess}
 use Rattle.splice_facts.specs.Input.{access_count}
 use Rattle.splice_facts.specs.Layout.{IsHere}
-use Rattle.splice_facts.specs.Related.{Rewritten, HasHeight, bounds}
+use Rattle.splice_facts.specs.Related.{HandlersLead, Rewritten, HasHeight, bounds}
 use Rattle.splice_facts.specs.Related as Pairs
 use Rattle.simulation_steps.proofs.PerformLaws.{made_depth}
 use Rattle.simulation_valid.specs.Keeping.{NoneVoid, StaysValid}
@@ -60,7 +60,7 @@ module _ (p : Program) (k : Contracts) (ms : List MethodDesc) (g : AddedNumbers)
   ends_handler : (hs : List Handling) (f : Frame) (fs : List Frame) (w : World) → f.handling ≡ hs → RunsHere p k ms g r f fs w → MayEnd p k ms g r f hs → Stays (resume p k hs f fs w)
   ends_handler [] f fs w e a m = tt
   ends_handler (h ∷ hs) f fs w e a m =
-      resumes_valid p k ms g r h hs h.cause f fs w a m.0 m.1 (subst (λ l. Rattle.simulation_valid.proofs.FrameLaws.low p k ms g r f.method l) e (a.top.frame.current m.0).0).1 m.2
+      resumes_valid p k ms g r h hs h.cause f fs w a m.0 m.1 ((subst (λ l. Rattle.simulation_valid.proofs.FrameLaws.low p k ms g r f.method l) e (a.top.frame.current m.0).0).1, (subst (λ l. HandlersLead p k ms g r f.method f.at l) e (a.top.frame.leads m.0)).1) m.2
 
   uses_behind : (i : Initializer) (t : Ty) (c : Access) (f : Frame) (l : Local) (fs : List Frame) (w : World) → RunsHere p k ms g r f fs w → Leaves p k ms g r f l fs (access_count c) → WellFormedAccess Bs c → IsTrue (is_below r.types t) → NoneVoid p (args_of t) → ((m : ℕ) → i ≡ ToRun m → m < r.methods) → Stays (use_behind p k i t c f l fs w)
   uses_behind Ready t c f l fs w a v fine own na old = uses_static_valid p k ms g r c f l fs w a.top v fine
@@ -77,7 +77,7 @@ module _ (p : Program) (k : Contracts) (ms : List MethodDesc) (g : AddedNumbers)
   performs_valid (Raise name) f fs w a v = raises_valid name f fs w a
   performs_valid (Throw x) f fs w a v = throws_top p k ms g r f fs w x a
   performs_valid Rethrow f fs w a v = rethrows_valid p k ms g r (innermost f.handling) f fs w a
-  performs_valid (Leave t) f fs w a v = leaves_valid p k ms g r 0 (place_in f.at) t f f.handling fs w a v.0 (subst (IsHere (plan_at k p f.method)) (sym (same_place p k ms g r f.at)) a.here) (a.top.frame.current v.0).0 v.1
+  performs_valid (Leave t) f fs w a v = leaves_valid p k ms g r 0 (place_in f.at) t f f.handling fs w a v.0 (subst (IsHere (plan_at k p f.method)) (sym (same_place p k ms g r f.at)) a.here) ((a.top.frame.current v.0).0, a.top.frame.leads v.0) v.1
   performs_valid EndHandler f fs w a v = ends_handler f.handling f fs w refl a v
   performs_valid Return f fs w a v = rets_valid p k ms g r f f.at fs w (places_of p k ms g r f fs a.top.frame a.top.as_named) a.top.below a.placed a.top.count a.top.deep a.top.frame.stands.fits a.here
   performs_valid (Load q h l) f fs w a v = loads_valid p k ms g r q h f l fs w a.top v.0 v.1

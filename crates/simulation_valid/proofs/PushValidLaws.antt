@@ -51,7 +51,7 @@ module _ (p : Program) (k : Contracts) (ms : List MethodDesc) (g : AddedNumbers)
   Stays x = StaysValid p k ms g r x
 
   -- it goes on at a place of the same part, with locals that are well formed and the height of that place
-  pub moves : (f : Frame) (t : ℕ) (l : Local) (hs : List Handling) (fs : List Frame) (w : World) → Topmost p k ms g r f fs w → ValidPlaces p k ms g r (record f { local = l }) fs → l.result ≡ f.local.result → (is_group f.at ≡ false → Standing.low p k ms g r f.method hs)
+  pub moves : (f : Frame) (t : ℕ) (l : Local) (hs : List Handling) (fs : List Frame) (w : World) → Topmost p k ms g r f fs w → ValidPlaces p k ms g r (record f { local = l }) fs → l.result ≡ f.local.result → (is_group f.at ≡ false → Standing.pending p k ms g r f.method f.at hs)
       → ((plan : Plan) (old : f.method < r.methods) (e : plan_at k p f.method ≡ Some plan) → is_group f.at ≡ false → length l.stack ≡ (r.heights f.method plan old e).height (moved_to t f.at)) → Stays (arrive_in p (plan_at k p f.method) f (moved_to t f.at) l hs fs w)
   moves f t l hs fs w top places same low height =
       arrives p k ms g r (plan_at k p f.method) f (moved_to t f.at) l hs fs w refl
@@ -60,7 +60,7 @@ module _ (p : Program) (k : Contracts) (ms : List MethodDesc) (g : AddedNumbers)
         below = top.below;
         fits = fits_moved (Standing.Fits p k ms g r) f.at t f.thrown top.frame.stands.fits;
         counted = counted_moved p f f.at t l same top.counted;
-        low = λ e. low (sym (group_moved f.at t) ∙ e);
+        low = λ e. let outer = sym (group_moved f.at t) ∙ e in ((low outer).0, Standing.leads_moved p k ms g r f.method f.at t hs outer (low outer).1);
         height = λ plan old e outer. omega (arith, height plan old e (sym (group_moved f.at t) ∙ outer));
         count = top.count ∙ ap (λ n. n + count_groups fs) (sym (count_moved f.at t));
         deep = top.deep;
@@ -69,7 +69,7 @@ module _ (p : Program) (k : Contracts) (ms : List MethodDesc) (g : AddedNumbers)
   -- the handlers that are pending stay
   pub arrives_from : (f : Frame) (t : ℕ) (l : Local) (fs : List Frame) (w : World) → Topmost p k ms g r f fs w → ValidPlaces p k ms g r (record f { local = l }) fs → l.result ≡ f.local.result
       → ((plan : Plan) (old : f.method < r.methods) (e : plan_at k p f.method ≡ Some plan) → is_group f.at ≡ false → length l.stack ≡ (r.heights f.method plan old e).height (moved_to t f.at)) → Stays (arrive p k f (moved_to t f.at) l fs w)
-  arrives_from f t l fs w top places same height = moves f t l f.handling fs w top places same (λ e. (top.frame.current e).0) height
+  arrives_from f t l fs w top places same height = moves f t l f.handling fs w top places same (λ e. ((top.frame.current e).0, top.frame.leads e)) height
 
   abbrev with_value : Option Value → Local → Local
   with_value v l = maybe l (λ x. pushed x l) v

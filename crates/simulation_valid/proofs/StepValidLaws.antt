@@ -78,7 +78,7 @@ module _ (p : Program) (k : Contracts) (ms : List MethodDesc) (g : AddedNumbers)
   unfolding act
   acts_fine i f fs w a found may =
       classes_fine p k ms g r f fs (places_of p k ms g r f fs a.top.frame a.top.as_named) i w a.top.below.world
-      (r.names f.method f.at i (here_of f fs) a.top.frame.stands.old refl a.top.as_named.2 a.top.as_named.3 a.here found) (class_of i.op) (named_there f fs w i a found)
+      (r.names f.method f.at i (here_of f fs) a.top.frame.stands.old refl a.top.as_named.2 a.top.as_named.3 a.here found) a.top.frame.leads (class_of i.op) (named_there f fs w i a found)
       (λ e. outside_groups (plan_at k p f.method) f i (r.input f.method a.top.frame.stands.old).pieces a.here found e) may
 
   pub step_of_act : (i : Instr) (f : Frame) (fs : List Frame) (w : World) → RunsHere p k ms g r f fs w → HasHeight p k ms g r f f.at 0 → fetch p k g (plan_at k p f.method) f.method f.at ≡ Some i → FineAct p k ms g r f fs (act p (here_of f fs) i w f.local) → StaysValid p k ms g r (run_plain p k g i f fs w)

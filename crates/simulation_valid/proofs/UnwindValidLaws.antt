@@ -25,7 +25,7 @@ use Rattle.machine_laws.specs.Answers.{is_below}
 use Rattle.splice_facts.specs.WellFormed.{WellFormedValues, WellFormedWorld}
 use Rattle.splice_facts.specs.Input.{is_group, LandsAt}
 use Rattle.splice_facts.specs.Layout.{IsHere}
-use Rattle.splice_facts.specs.Related.{Rewritten, ValidFrame, ValidFrames, HeightsBelow, FitsAt, bounds, in_group, count_groups}
+use Rattle.splice_facts.specs.Related.{CauseLeads, Rewritten, ValidFrame, ValidFrames, HeightsBelow, FitsAt, bounds, in_group, count_groups}
 use Rattle.simulation.proofs.PushLaws.{fits_moved}
 use Rattle.simulation_valid.specs.Keeping.{ReturnsFully, CountsResult, AllReturn, StaysValid, ValidPlaces, ValidBelow, Placed, PlacedAt, ValidTail}
 use Rattle.simulation_valid.proofs.FrameLaws as Standing
@@ -91,7 +91,7 @@ module _ (p : Program) (k : Contracts) (ms : List MethodDesc) (g : AddedNumbers)
     pub fits : FitsAt Fits at h.thrown
     pub here : IsHere (plan_at k p h.method) at
     pub thrower : is_group at ≡ false → IsHere (plan_at k p h.method) (moved_to q at)
-    pub low : is_group at ≡ false → Standing.low p k ms g r h.method hs
+    pub low : is_group at ≡ false → Standing.pending p k ms g r h.method at hs
     pub count : w.depth ≡ in_group at + count_groups fs
     pub deep : w.depth ≤ suc k.settings.guard
     pub down : GoesDown h.continuation fs
@@ -107,16 +107,16 @@ module _ (p : Program) (k : Contracts) (ms : List MethodDesc) (g : AddedNumbers)
       let here : IsHere (Some plan) (moved_to at_row.row.handler_from at) = subst (λ z. IsHere (Some plan) (moved_to z at)) (sym at_row.begins) (subst (λ o. IsHere o (moved_to t at)) e there) in
       sym at_row.height ∙ sym (hts.handlers at at_row.row at_row.there outer here) ∙ ap (λ z. hts.height (moved_to z at)) at_row.begins
 
-  pub handler_begins : (h : Frame) (at : ProgramPoint) (s : List Value) (new : Handling) (hs : List Handling) (q t : ℕ) (fs : List Frame) (w : World) → is_group at ≡ false → Throwing h at hs q fs w → IsHere (plan_at k p h.method) (moved_to t at) → new.handler < length (body_of p h.method).regions → WellFormedValues (bounds p k ms g r) s → HandlerAt (body_of p h.method).regions t (length s)
+  pub handler_begins : (h : Frame) (at : ProgramPoint) (s : List Value) (new : Handling) (hs : List Handling) (q t : ℕ) (fs : List Frame) (w : World) → is_group at ≡ false → Throwing h at hs q fs w → IsHere (plan_at k p h.method) (moved_to t at) → new.handler < length (body_of p h.method).regions → IsHere (plan_at k p h.method) (moved_to new.place at) × CauseLeads p k ms g r h.method at new.cause → WellFormedValues (bounds p k ms g r) s → HandlerAt (body_of p h.method).regions t (length s)
       → Stays (Rattle.cil_semantics.specs.Unwind.goes_at p (record h { at = at }) (moved_to t at) (with_stack h.local s) (new ∷ hs) fs w)
-  handler_begins h at s new hs q t fs w outer z there lower ok row =
+  handler_begins h at s new hs q t fs w outer z there lower leads ok row =
       stands_valid p k ms g r (record h { at = at }) (moved_to t at) (with_stack h.local s) (new ∷ hs) fs w
       (record {
         places = restacked (record h { at = at }) s fs (places_at h at h.handling h.thrown fs z.places) ok;
         below = below_same p k ms g r h (record h { at = at }) fs w refl refl z.below;
         fits = fits_moved Fits at t h.thrown z.fits;
         counted = no_result_outside p (record h { at = at; local = with_stack h.local s }) at t outer;
-        low = λ e. (lower, z.low outer);
+        low = λ e. ((lower, (z.low outer).0), Standing.leads_moved p k ms g r h.method at t (new ∷ hs) outer (leads, (z.low outer).1));
         height = λ plan old e q1. omega (arith, height_there h at t (length s) outer there row plan old e);
         count = z.count ∙ ap (λ n. n + count_groups fs) (not_in_group at outer ∙ sym (out_of_groups at t outer));
         deep = z.deep;
@@ -125,8 +125,8 @@ module _ (p : Program) (k : Contracts) (ms : List MethodDesc) (g : AddedNumbers)
   lands : (o : Found) (h : Frame) (at : ProgramPoint) (hs : List Handling) (q : ℕ) (fs : List Frame) (w : World) (x : ℕ) → is_group at ≡ false → Throwing h at hs q fs w → LandsAt (plan_at k p h.method) at (length (body_of p h.method).regions) o → FoundHeight (body_of p h.method).regions o
       → Stays (no_handler_left p (plan_at k p h.method) (record h { at = at }) at fs w x (Below fs)) → Stays (land p k o (record h { at = at }) hs q fs w x (Below fs))
   lands NoHandler h at hs q fs w x outer z there height left = left
-  lands (CatchHandler i t) h at hs q fs w x outer z there height left = handler_begins h at (Obj x ∷ []) (record { handler = i; cause = Caught x; place = q; next = i + 1 }) hs q t fs w outer z there.0 there.1 (tt, tt) height
-  lands (CleanupHandler i t) h at hs q fs w x outer z there height left = handler_begins h at [] (record { handler = i; cause = Unwinding x; place = q; next = i + 1 }) hs q t fs w outer z there.0 there.1 tt height
+  lands (CatchHandler i t) h at hs q fs w x outer z there height left = handler_begins h at (Obj x ∷ []) (record { handler = i; cause = Caught x; place = q; next = i + 1 }) hs q t fs w outer z there.0 there.1 (z.thrower outer, tt) (tt, tt) height
+  lands (CleanupHandler i t) h at hs q fs w x outer z there height left = handler_begins h at [] (record { handler = i; cause = Unwinding x; place = q; next = i + 1 }) hs q t fs w outer z there.0 there.1 (z.thrower outer, tt) tt height
 
   pub lowered_below : (h f : Frame) (fs : List Frame) (w : World) → f.method ≡ h.method → f.continuation ≡ h.continuation → ValidBelow p k ms g r h fs w → ValidBelow p k ms g r f fs (lowered w)
   lowered_below h f fs w e q b = let c = below_same p k ms g r h f fs w e q b in record { others = c.others; returning = c.returning; heights = c.heights; world = record { heap = c.world.heap; statics = c.world.statics } }
@@ -200,7 +200,7 @@ module _ (p : Program) (k : Contracts) (ms : List MethodDesc) (g : AddedNumbers)
         fits = v.stands.fits;
         here = here;
         thrower = λ outer. subst (IsHere (plan_at k p h.method)) (sym (same_place h.at)) here;
-        low = λ outer. (v.current outer).0;
+        low = λ outer. ((v.current outer).0, v.leads outer);
         count = count;
         deep = deep;
         down = down;

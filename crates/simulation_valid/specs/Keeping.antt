@@ -31,7 +31,7 @@ use Rattle.splice_facts.specs.WellFormed.{WellFormedLocal, WellFormedWorld, Well
 use Rattle.splice_facts.specs.Input.{is_group, result_count, top_of, ReturnsAsNamed}
 use Rattle.splice_facts.specs.Layout.{IsHere}
 use Rattle.splice_facts.specs.Spliced.{FitsGroup, AreLow}
-use Rattle.splice_facts.specs.Related.{Rewritten, Valid, ValidFrames, HeightsBelow, FitsAt, bounds, written, in_group, count_groups}
+use Rattle.splice_facts.specs.Related.{HandlersLead, Rewritten, Valid, ValidFrames, HeightsBelow, FitsAt, bounds, written, in_group, count_groups}
 
 -- a constructor of a struct has the struct behind its arguments
 abbrev pub StructThere : Continuation → List Cell → Type 0
@@ -87,7 +87,7 @@ module _ (p : Program) (k : Contracts) (ms : List MethodDesc) (g : AddedNumbers)
     pub below : ValidBelow h fs w
     pub fits : FitsAt (FitsGroup p k (written p k ms g r) g r.types r.depths) at h.thrown
     pub counted : CountsResult p (record h { local = l }) at
-    pub low : is_group at ≡ false → AreLow p k (written p k ms g r) g r.types r.depths h.method hs
+    pub low : is_group at ≡ false → AreLow p k (written p k ms g r) g r.types r.depths h.method hs × HandlersLead p k ms g r h.method at hs
     pub height : (plan : Plan) (old : h.method < r.methods) (e : plan_at k p h.method ≡ Some plan) → is_group at ≡ false → length l.stack + 0 ≡ (r.heights h.method plan old e).height at
     pub count : w.depth ≡ in_group at + count_groups fs
     pub deep : w.depth ≤ suc k.settings.guard

@@ -52,7 +52,7 @@ use Rattle.splice_facts.specs.WellFormed.{Bounds, WellFormedObjects, WellFormedV
 use Rattle.splice_facts.specs.Input.{is_group, top_of, result_count, access_count}
 use Rattle.splice_facts.specs.Layout.{IsHere, fetch}
 use Rattle.splice_facts.specs.Spliced.{FitsGroup, AreLow, cost}
-use Rattle.splice_facts.specs.Related.{Rewritten, ReachesIn, ValidFrame, ValidFrames, HeightsBelow, HasHeight, bounds, written, per_frame, in_group, count_groups}
+use Rattle.splice_facts.specs.Related.{EmptyAt, CauseLeads, HandlersLead, Rewritten, ReachesIn, ValidFrame, ValidFrames, HeightsBelow, HasHeight, bounds, written, per_frame, in_group, count_groups}
 use Rattle.simulation_valid.specs.Changes.{ChangedFrames}
 use Rattle.simulation_valid.specs.Keeping.{ReturnsFully, CountsResult, AllReturn, StructThere, NoneVoid, StaysValid, ValidPlaces, ValidBelow, ValidTail, TailHeights, Placed}
 
@@ -132,12 +132,11 @@ module _ (p : Program) (k : Contracts) (ms : List MethodDesc) (g : AddedNumbers)
 
   -- where a leave leads there is nothing on the stack
   abbrev pub IsEmptyAt : Frame → ℕ → Type 0
-  IsEmptyAt f t = (plan : Plan) (old : f.method < r.methods) (e : plan_at k p f.method ≡ Some plan) → (r.heights f.method plan old e).height (moved_to t f.at) ≡ 0
+  IsEmptyAt f t = EmptyAt p k ms g r f.method f.at t
 
   -- and so it is where a handler interrupted one
   abbrev pub MayResume : Frame → Cause → Type 0
-  MayResume f (Leaving t) = IsEmptyAt f t
-  MayResume f _ = Unit {0}
+  MayResume f c = CauseLeads p k ms g r f.method f.at c
 
   -- the innermost handler of a frame, which ends
   abbrev pub MayEnd : Frame → List Handling → Type 0
@@ -184,14 +183,8 @@ module _ (p : Program) (k : Contracts) (ms : List MethodDesc) (g : AddedNumbers)
   FineAct f fs (NewObject c l) = ⊥
   FineAct f fs (LoadVirtualFunction c l) = ⊥
 
-  -- a frame may go on where its innermost handler leads
-  abbrev pub HandlerLeads : Frame → List Handling → Type 0
-  HandlerLeads f [] = Unit {0}
-  HandlerLeads f (h ∷ hs) = IsHere (plan_at k p f.method) (moved_to h.place f.at) × MayResume f h.cause
-
-  -- What is asked of an instruction by its class (ECMA-335, Partition III): where a handler ends, where that leads; of a call that it is stuck, and so calls nothing.
+  -- What is asked of an instruction by its class (ECMA-335, Partition III): of a call that it is stuck, and so calls nothing.
   abbrev pub MayStep : Instr → Frame → List Frame → World → Class → Type 0
-  MayStep i f fs w class.EndFinally = HandlerLeads f f.handling
   MayStep i f fs w class.Call = FineAct f fs (act_of_class p (here_of f fs) i w f.local class.Call)
   MayStep i f fs w class.CallVirtual = FineAct f fs (act_of_class p (here_of f fs) i w f.local class.CallVirtual)
   MayStep i f fs w class.NewObject = FineAct f fs (act_of_class p (here_of f fs) i w f.local class.NewObject)
@@ -226,11 +219,11 @@ module _ (p : Program) (k : Contracts) (ms : List MethodDesc) (g : AddedNumbers)
 
   abbrev pub LeavesValid : Type 0
   LeavesValid =
-      (skip q t : ℕ) (f : Frame) (hs : List Handling) (fs : List Frame) (w : World) → RunsHere f fs w → is_group f.at ≡ false → IsHere (plan_at k p f.method) (moved_to q f.at) → AreLow p k (written p k ms g r) g r.types r.depths f.method hs → IsEmptyAt f t → StaysValid p k ms g r (leave p k skip q t f hs fs w)
+      (skip q t : ℕ) (f : Frame) (hs : List Handling) (fs : List Frame) (w : World) → RunsHere f fs w → is_group f.at ≡ false → IsHere (plan_at k p f.method) (moved_to q f.at) → AreLow p k (written p k ms g r) g r.types r.depths f.method hs × HandlersLead p k ms g r f.method f.at hs → IsEmptyAt f t → StaysValid p k ms g r (leave p k skip q t f hs fs w)
 
   abbrev pub ResumesValid : Type 0
   ResumesValid =
-      (h : Handling) (hs : List Handling) (c : Cause) (f : Frame) (fs : List Frame) (w : World) → RunsHere f fs w → is_group f.at ≡ false → IsHere (plan_at k p f.method) (moved_to h.place f.at) → AreLow p k (written p k ms g r) g r.types r.depths f.method hs → MayResume f c → StaysValid p k ms g r (resume_cause p k h c hs f fs w)
+      (h : Handling) (hs : List Handling) (c : Cause) (f : Frame) (fs : List Frame) (w : World) → RunsHere f fs w → is_group f.at ≡ false → IsHere (plan_at k p f.method) (moved_to h.place f.at) → AreLow p k (written p k ms g r) g r.types r.depths f.method hs × HandlersLead p k ms g r f.method f.at hs → MayResume f c → StaysValid p k ms g r (resume_cause p k h c hs f fs w)
 
   abbrev pub LoadsValid : Type 0
   LoadsValid = (q : Pointer) (h : Storage) (f : Frame) (l : Local) (fs : List Frame) (w : World) → Topmost f fs w → Leaves f l fs 1 → WellFormedPointer Bs q → StaysValid p k ms g r (load p k q h f l fs w)

@@ -235,6 +235,19 @@ module _ (p : Program) (k : Contracts) (ms : List MethodDesc) (g : AddedNumbers)
   AllStand [] = Unit {0}
   AllStand (f ∷ fs) = Standing f fs × AllStand fs
 
+  -- where a `leave` leads there is nothing on the stack (ECMA-335, III.3.46)
+  abbrev pub EmptyAt : ℕ → ProgramPoint → ℕ → Type 0
+  EmptyAt m at t = (plan : Plan) (old : m < r.methods) (e : plan_at k p m ≡ Some plan) → (r.heights m plan old e).height (moved_to t at) ≡ 0
+
+  abbrev pub CauseLeads : ℕ → ProgramPoint → Cause → Type 0
+  CauseLeads m at (Leaving t) = EmptyAt m at t
+  CauseLeads m at c = Unit {0}
+
+  -- handlers that run were begun from places that are there, and lead on so
+  abbrev pub HandlersLead : ℕ → ProgramPoint → List Handling → Type 0
+  HandlersLead m at [] = Unit {0}
+  HandlersLead m at (h ∷ hs) = (IsHere (plan_in m) (moved_to h.place at) × CauseLeads m at h.cause) × HandlersLead m at hs
+
   pub record ValidFrame (f : Frame) (fs : List Frame) : Type 0 where
     pub stands : Standing f fs
     pub captured : map (λ (c : Cell). c.ty) f.local.captured ≡ captured_tys p (here_of f fs) (plan_in f.method)
@@ -243,6 +256,7 @@ module _ (p : Program) (k : Contracts) (ms : List MethodDesc) (g : AddedNumbers)
     pub fine_back : WellFormedContinuation bounds f.continuation
     -- only handlers round the place are pending
     pub current : is_group f.at ≡ false → Current p k written g r.types r.depths f.method f.at f.handling
+    pub leads : is_group f.at ≡ false → HandlersLead f.method f.at f.handling
 
   -- how many values a frame that ends pushes below, by what happens then
   abbrev pub pushes : ℕ → Continuation → ℕ
