@@ -38,7 +38,7 @@ module _ (p : Program) (k : Contracts) (ms : List MethodDesc) (g : AddedNumbers)
   written_twice : (fs : List Frame) (w : World) (x y : List Frame × World) → Written Bs p fs w x → Written Bs p x.0 x.1 y → Written Bs p fs w y
   written_twice fs w x y a c = record { frames = all_changed_twice Bs fs x.0 y.0 a.frames c.frames; world = λ h. c.world (a.world h); depth = c.depth ∙ a.depth }
 
-  stores_back : (args : List (Ty × Value)) (vs : List Value) (fs : List Frame) (w : World) (x : List Frame × World) → WellFormedRefs p k ms g r args → stored_back p args vs fs w ≡ Some x → Written Bs p fs w x
+  pub stores_back : (args : List (Ty × Value)) (vs : List Value) (fs : List Frame) (w : World) (x : List Frame × World) → WellFormedRefs p k ms g r args → stored_back p args vs fs w ≡ Some x → Written Bs p fs w x
   stores_back args [] fs w x refs e = let z : (fs, w) ≡ x = cc e in subst (Written Bs p fs w) z (record { frames = all_unchanged Bs fs; world = λ h. h; depth = refl })
   stores_back [] (v ∷ vs) fs w x refs e = absurd (cc e)
   stores_back (a ∷ args) (v ∷ vs) fs w x refs e = by_fit (λ y q. stores_back args vs y.0 y.1 x refs.1 q) (fits p w a.0 v) refl e
@@ -55,7 +55,7 @@ module _ (p : Program) (k : Contracts) (ms : List MethodDesc) (g : AddedNumbers)
       by_fit more true s z = by_pointer more (fits_fine Bs 1001 p w a.0 v s) (pointer_in (out-Value a.1)) refl z
       by_fit more false s z = absurd (cc z)
 
-  told : (m : Member) (values : List Value) (res : ReplyResult) (back : List Value) (fs : List Frame) (w : World) (x : List Frame × World) → WellFormedWorld Bs w → Written Bs p fs w x → AfterCall p k ms g r fs w x.0 (recorded m values res back x.1)
+  pub told : (m : Member) (values : List Value) (res : ReplyResult) (back : List Value) (fs : List Frame) (w : World) (x : List Frame × World) → WellFormedWorld Bs w → Written Bs p fs w x → AfterCall p k ms g r fs w x.0 (recorded m values res back x.1)
   told m values res back fs w x ok a = let h = a.world ok in record { frames = a.frames; world = record { heap = h.heap; statics = h.statics }; depth = a.depth }
 
   throws_out : (m : Member) (name : Name) (fs gs : List Frame) (w w2 : World) (other : Answer) → AfterCall p k ms g r fs w gs w2 → ValidAnswer p k ms g r m fs w other → ValidAnswer p k ms g r m fs w (thrown_out p name gs w2 other)

@@ -1,0 +1,45 @@
+-- Calls of members and new objects in the run with contracts: what is known where they begin, and what then stays valid.
+use Rattle.std.specs.Prelude.{◌≡◌, ℕ, ◌+◌, suc, ◌<◌, ◌≤◌, List, IsTrue}
+use Rattle.cil_model.specs.declared.ty.Ty.{Ty}
+use Rattle.cil_model.specs.declared.value.Value.{Value}
+use Rattle.cil_model.specs.declared.contract.Contracts.{Contracts}
+use Rattle.cil_model.specs.declared.program.Program.{Program}
+use Rattle.cil_model.specs.declared.program.MethodDesc.{MethodDesc}
+use Rattle.cil_semantics.specs.Lookups.{args_of}
+use Rattle.cil_semantics.specs.declared.state.World.{World}
+use Rattle.cil_semantics.specs.declared.state.Frame.{Frame}
+use Rattle.cil_semantics.specs.declared.state.Continuation.TheVariants.{Push}
+use Rattle.cil_semantics.specs.Calls.{CoreMember, Constructor, NotCore, core_of, call_member, make, pushes_new}
+use Rattle.cil_semantics.specs.Checks.{AddedNumbers}
+use Rattle.machine_laws.specs.Answers.{is_below}
+use Rattle.splice_facts.specs.WellFormed.{NoneVoid, WellFormedValues, WellFormedWorld}
+use Rattle.splice_facts.specs.Input.{result_count}
+use Rattle.splice_facts.specs.Related.{Rewritten, bounds, count_groups}
+use Rattle.simulation_valid.specs.Keeping.{StaysValid, ValidTail}
+use Rattle.simulation_valid.specs.Steps.{NextHeight, MayCall}
+
+-- a core member is described with the result that it has: a constructor with none, each other one with a value (ECMA-335, Partition IV)
+abbrev pub GivesAsDescribed : CoreMember → ℕ → Type 0
+GivesAsDescribed Constructor n = n ≡ 0
+GivesAsDescribed NotCore n = Unit {0}
+GivesAsDescribed c n = n ≡ 1
+
+module _ (p : Program) (k : Contracts) (ms : List MethodDesc) (g : AddedNumbers) (r : Rewritten p k ms g) where
+  -- A call of the member that a token names: a core member, ForAll or Exists, one outside, or one with a body.
+  abbrev pub MembersValid : Type 0
+  MembersValid =
+      (owner : Ty) (m : ℕ) (args : List Ty) (values : List Value) (fs : List Frame) (w : World) → m < r.methods → IsTrue (is_below r.types owner) → NoneVoid p (args_of owner) → NoneVoid p args → WellFormedValues (bounds p k ms g r) values → GivesAsDescribed (core_of p owner m) (result_count p m) → MayCall p k ms g r m fs w
+      → StaysValid p k ms g r (call_member p k owner m args values fs w)
+
+  -- the frames that wait for a new object or struct
+  pub record MayMake (fs : List Frame) (w : World) : Type 0 where
+    pub tail : ValidTail p k ms g r Push fs
+    pub next : NextHeight p k ms g r 1 fs
+    pub world : WellFormedWorld (bounds p k ms g r) w
+    pub count : w.depth ≡ count_groups fs
+    pub deep : w.depth ≤ suc k.settings.guard
+
+  -- newobj: a delegate, a core exception, what an outside constructor makes, an object, or a struct (ECMA-335, III.4.21).
+  abbrev pub NewObjectsValid : Type 0
+  NewObjectsValid =
+      (t : Ty) (m : ℕ) (values : List Value) (fs : List Frame) (w : World) → m < r.methods → IsTrue (is_below r.types t) → NoneVoid p (args_of t) → WellFormedValues (bounds p k ms g r) values → MayMake fs w → StaysValid p k ms g r (make p k (pushes_new p k) t m values fs w)

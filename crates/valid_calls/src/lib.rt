@@ -1,0 +1,16 @@
+//! Calls of members and new objects in the run of an input with its contracts: what they come to is valid.
+#![tactic(auto)]
+
+ghost use Rattle.std.specs.Prelude.{List};
+ghost use Rattle.cil_model.specs.declared.contract.Contracts.{Contracts};
+ghost use Rattle.cil_model.specs.declared.program.MethodDesc.{MethodDesc};
+ghost use Rattle.cil_model.specs.declared.program.Program.{Program};
+ghost use Rattle.cil_semantics.specs.Checks.{AddedNumbers};
+ghost use Rattle.splice_facts.specs.Related.{Rewritten};
+ghost use Rattle.valid_calls.specs.Members.{MembersValid, NewObjectsValid};
+
+/// A call of a member, whether core, outside or with a body, and newobj lead to valid states.
+pub fn calls_keep_valid()
+    ensures members { (p : Program) (k : Contracts) (ms : List MethodDesc) (g : AddedNumbers) (r : Rewritten p k ms g) → MembersValid p k ms g r }
+    ensures objects { (p : Program) (k : Contracts) (ms : List MethodDesc) (g : AddedNumbers) (r : Rewritten p k ms g) → NewObjectsValid p k ms g r }
+{}
