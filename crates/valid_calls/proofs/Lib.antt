@@ -1,2 +1,3 @@
 mod MemberLaws
 mod NewValidLaws
+mod CallStepLaws

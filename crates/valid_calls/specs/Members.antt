@@ -1,5 +1,14 @@
 -- Calls of members and new objects in the run with contracts: what is known where they begin, and what then stays valid.
-use Rattle.std.specs.Prelude.{◌≡◌, ℕ, ◌+◌, suc, ◌<◌, ◌≤◌, List, IsTrue}
+use Rattle.std.specs.Prelude.{◌≡◌, ℕ, ◌+◌, suc, ◌<◌, ◌≤◌, List, Option, Some, IsTrue}
+use Rattle.cil_model.specs.declared.body.Instr.{Instr}
+use Rattle.cil_model.specs.declared.program.Meaning.{Meaning}
+use Rattle.cil_model.specs.declared.program.Meaning.TheVariants.{OfMethod}
+use Rattle.il_opcodes.specs.Opcodes.{class_of}
+use Rattle.il_opcodes.specs.declared.class.Class.TheVariants as class
+use Rattle.cil_semantics.specs.Tokens.{meaning_here}
+use Rattle.cil_semantics.specs.Unwind.{plan_at, here_of}
+use Rattle.cil_semantics.specs.Machine.{run_plain}
+use Rattle.splice_facts.specs.Layout.{fetch}
 use Rattle.cil_model.specs.declared.ty.Ty.{Ty}
 use Rattle.cil_model.specs.declared.value.Value.{Value}
 use Rattle.cil_model.specs.declared.contract.Contracts.{Contracts}
@@ -14,9 +23,9 @@ use Rattle.cil_semantics.specs.Checks.{AddedNumbers}
 use Rattle.machine_laws.specs.Answers.{is_below}
 use Rattle.splice_facts.specs.WellFormed.{NoneVoid, WellFormedValues, WellFormedWorld}
 use Rattle.splice_facts.specs.Input.{result_count}
-use Rattle.splice_facts.specs.Related.{Rewritten, bounds, count_groups}
+use Rattle.splice_facts.specs.Related.{Rewritten, HasHeight, bounds, count_groups}
 use Rattle.simulation_valid.specs.Keeping.{StaysValid, ValidTail}
-use Rattle.simulation_valid.specs.Steps.{NextHeight, MayCall}
+use Rattle.simulation_valid.specs.Steps.{NextHeight, MayCall, RunsHere}
 
 -- a core member is described with the result that it has: a constructor with none, each other one with a value (ECMA-335, Partition IV)
 abbrev pub GivesAsDescribed : CoreMember → ℕ → Type 0
@@ -24,12 +33,26 @@ GivesAsDescribed Constructor n = n ≡ 0
 GivesAsDescribed NotCore n = Unit {0}
 GivesAsDescribed c n = n ≡ 1
 
+abbrev pub NamesGiving : Program → Option Meaning → Type 0
+NamesGiving p (Some (OfMethod owner m args)) = GivesAsDescribed (core_of p owner m) (result_count p m)
+NamesGiving p m = Unit {0}
+
 module _ (p : Program) (k : Contracts) (ms : List MethodDesc) (g : AddedNumbers) (r : Rewritten p k ms g) where
   -- A call of the member that a token names: a core member, ForAll or Exists, one outside, or one with a body.
   abbrev pub MembersValid : Type 0
   MembersValid =
       (owner : Ty) (m : ℕ) (args : List Ty) (values : List Value) (fs : List Frame) (w : World) → m < r.methods → IsTrue (is_below r.types owner) → NoneVoid p (args_of owner) → NoneVoid p args → WellFormedValues (bounds p k ms g r) values → GivesAsDescribed (core_of p owner m) (result_count p m) → MayCall p k ms g r m fs w
       → StaysValid p k ms g r (call_member p k owner m args values fs w)
+
+  -- a step at a call (ECMA-335, III.3.19)
+  abbrev pub CallStepsValid : Type 0
+  CallStepsValid =
+      (i : Instr) (f : Frame) (fs : List Frame) (w : World) → RunsHere p k ms g r f fs w → HasHeight p k ms g r f f.at 0 → fetch p k g (plan_at k p f.method) f.method f.at ≡ Some i → class_of i.op ≡ class.Call → NamesGiving p (meaning_here p (here_of f fs) i) → StaysValid p k ms g r (run_plain p k g i f fs w)
+
+  -- a step at newobj
+  abbrev pub NewStepsValid : Type 0
+  NewStepsValid =
+      (i : Instr) (f : Frame) (fs : List Frame) (w : World) → RunsHere p k ms g r f fs w → HasHeight p k ms g r f f.at 0 → fetch p k g (plan_at k p f.method) f.method f.at ≡ Some i → class_of i.op ≡ class.NewObject → StaysValid p k ms g r (run_plain p k g i f fs w)
 
   -- the frames that wait for a new object or struct
   pub record MayMake (fs : List Frame) (w : World) : Type 0 where

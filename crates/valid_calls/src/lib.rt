@@ -7,10 +7,13 @@ ghost use Rattle.cil_model.specs.declared.program.MethodDesc.{MethodDesc};
 ghost use Rattle.cil_model.specs.declared.program.Program.{Program};
 ghost use Rattle.cil_semantics.specs.Checks.{AddedNumbers};
 ghost use Rattle.splice_facts.specs.Related.{Rewritten};
-ghost use Rattle.valid_calls.specs.Members.{MembersValid, NewObjectsValid};
+ghost use Rattle.valid_calls.specs.Members.{MembersValid, NewObjectsValid, CallStepsValid, NewStepsValid};
 
-/// A call of a member, whether core, outside or with a body, and newobj lead to valid states.
+/// A call of a member, whether core, outside or with a body, and newobj lead to valid states, and so do
+/// steps at `call` and `newobj`.
 pub fn calls_keep_valid()
     ensures members { (p : Program) (k : Contracts) (ms : List MethodDesc) (g : AddedNumbers) (r : Rewritten p k ms g) → MembersValid p k ms g r }
     ensures objects { (p : Program) (k : Contracts) (ms : List MethodDesc) (g : AddedNumbers) (r : Rewritten p k ms g) → NewObjectsValid p k ms g r }
+    ensures calling { (p : Program) (k : Contracts) (ms : List MethodDesc) (g : AddedNumbers) (r : Rewritten p k ms g) → CallStepsValid p k ms g r }
+    ensures making { (p : Program) (k : Contracts) (ms : List MethodDesc) (g : AddedNumbers) (r : Rewritten p k ms g) → NewStepsValid p k ms g r }
 {}
