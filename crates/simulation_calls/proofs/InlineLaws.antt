@@ -116,7 +116,7 @@ static_checks p (Some (OfMethod owner m args)) =
     (abbreviator_checks p (Some (OfMethod owner m args)))
 static_checks p _ = no_checks
 
-call_checks : (p : Program) (i : Instr) → NoRequiresOf (contract_call p i)
+pub call_checks : (p : Program) (i : Instr) → NoRequiresOf (contract_call p i)
 unfolding contract_call
 call_checks p i =
     either_checks (i.op == 0x28) (static_call p (own_meaning p i.operand)) (if i.op == 0x6F then abbreviator_call p (own_meaning p i.operand) else NoContractCall) (static_checks p (own_meaning p i.operand))

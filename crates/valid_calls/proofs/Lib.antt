@@ -1,3 +1,4 @@
 mod MemberLaws
 mod NewValidLaws
 mod CallStepLaws
+mod DispatchLaws

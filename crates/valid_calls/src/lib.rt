@@ -7,6 +7,7 @@ ghost use Rattle.cil_model.specs.declared.program.MethodDesc.{MethodDesc};
 ghost use Rattle.cil_model.specs.declared.program.Program.{Program};
 ghost use Rattle.cil_semantics.specs.Checks.{AddedNumbers};
 ghost use Rattle.splice_facts.specs.Related.{Rewritten};
+ghost use Rattle.valid_calls.specs.Steps.{StepsStayValid};
 ghost use Rattle.valid_calls.specs.Members.{MembersValid, NewObjectsValid, CallStepsValid, NewStepsValid};
 
 /// A call of a member, whether core, outside or with a body, and newobj lead to valid states, and so do
@@ -16,4 +17,10 @@ pub fn calls_keep_valid()
     ensures objects { (p : Program) (k : Contracts) (ms : List MethodDesc) (g : AddedNumbers) (r : Rewritten p k ms g) → NewObjectsValid p k ms g r }
     ensures calling { (p : Program) (k : Contracts) (ms : List MethodDesc) (g : AddedNumbers) (r : Rewritten p k ms g) → CallStepsValid p k ms g r }
     ensures making { (p : Program) (k : Contracts) (ms : List MethodDesc) (g : AddedNumbers) (r : Rewritten p k ms g) → NewStepsValid p k ms g r }
+{}
+
+/// Each step of the run of an input with its contracts comes to a valid state, or ends: whatever
+/// instruction or contract call stands where the topmost frame does.
+pub fn each_step_stays_valid()
+    ensures { (p : Program) (k : Contracts) (ms : List MethodDesc) (g : AddedNumbers) (r : Rewritten p k ms g) → StepsStayValid p k ms g r }
 {}
