@@ -1,5 +1,5 @@
 -- The arguments of an instance, one level after another.
-use Rattle.std.proofs.Common.{◌≡◌, sym, ap, refl, arith, ℕ, zero, suc, ◌-◌, List, []}
+use Rattle.std.proofs.Common.{◌≡◌, ap, refl, arith, ℕ, zero, suc, ◌-◌, []}
 use Rattle.cli_sigs.specs.declared.types.SigTy.{SigTy, out-SigTy}
 use Rattle.set_types.specs.SignatureTypes.{Coded}
 use Rattle.member_table.specs.Environments.{layer_arguments, arguments_within}

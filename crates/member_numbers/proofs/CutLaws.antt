@@ -1,5 +1,5 @@
 -- How many rows stand before TARGET's runtime class.
-use Rattle.std.proofs.Common.{◌≡◌, ◌∙◌, sym, ap, subst, arith, rules, ℕ, ◌+◌, ◌-◌, ◌<◌, Bool, true, false}
+use Rattle.std.proofs.Common.{◌≡◌, ◌∙◌, sym, ap, arith, rules, ℕ, ◌+◌, ◌-◌, ◌<◌, Bool, true, false}
 use Rattle.std.specs.Prelude.{nat_lt, max, Option, if◌then◌else◌}
 use Rattle.cil_base.specs.declared.tables.TheConstants.{TYPE_DEF}
 use Rattle.set_rows.specs.Sets.{Assembly, count_in, cell}

@@ -1,6 +1,6 @@
 -- The numbers of fields, or methods, by what is kept of them.
-use Rattle.std.proofs.Common.{◌≡◌, ◌∙◌, sym, ap, refl, arith, ℕ, suc, ◌+◌, ◌-◌, ◌≤◌, ◌<◌, List, [], ◌∷◌, length, Bool}
-use Rattle.std.specs.Prelude.{Option, Some, None, option_map}
+use Rattle.std.proofs.Common.{◌≡◌, ◌∙◌, sym, ap, arith, ℕ, ◌+◌, ◌-◌, ◌≤◌, ◌<◌, List, [], ◌∷◌, length, Bool}
+use Rattle.std.specs.Prelude.{Some, None, option_map}
 use Rattle.std.specs.List.{position_from}
 use Rattle.set_rows.specs.Sets.{Assemblies, assembly_at, count_in}
 use Rattle.set_program.specs.Numbering.{Cell, cut}
@@ -9,7 +9,7 @@ use Rattle.members.specs.OutsideMembers.{member_place}
 use Rattle.members.specs.declared.outside_member.OutsideMember.{OutsideMember}
 use Rattle.member_table.specs.declared.named.MemberId.{MemberId}
 use Rattle.member_table.specs.declared.named.MemberId.TheVariants as id
-use Rattle.member_table.specs.Numbers.{same_id, member_ids, member_number, outside_members}
+use Rattle.member_table.specs.Numbers.{same_id, member_ids, member_number}
 use Rattle.member_numbers.specs.Kept.{rows_before, IsNumbered}
 use Rattle.member_numbers.proofs.NumberingLaws.{ids, number, ids_count, other_number, old_number, new_number, outside_number, none_there, before_next, before_rises, cut_low, place_within}
 

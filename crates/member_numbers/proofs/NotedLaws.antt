@@ -1,17 +1,16 @@
 -- Outside members, each with the first row that names it.
 use Rattle.std.proofs.Common.{◌≡◌, ◌∙◌, sym, ap, subst, refl, rules, arith, ℕ, zero, suc, ◌+◌, ◌-◌, ◌<◌, List, [], ◌∷◌, ◌++◌, map, length, length-append, append_assoc, Bool, true, false}
-use Rattle.std.specs.Prelude.{cond, ◌&&◌, bytes_eq, not, is_some, flat_map, find, Option, Some, None, Result, Ok, Err, IfOk, if◌then◌else◌}
+use Rattle.std.specs.Prelude.{cond, ◌&&◌, bytes_eq, is_some, flat_map, find, Option, Some, None, Result, Ok, Err, IfOk, if◌then◌else◌}
 use Rattle.std.specs.List.{range_with_len, position_from}
 use Rattle.std.specs.Option.{option_or}
 use Rattle.std.proofs.lemmas.List.{map-append, append-nil}
 use Rattle.std.proofs.lemmas.Grind.{flat_map-append}
 use Rattle.set_rows.specs.Sets.{Assemblies}
 use Rattle.set_signatures.specs.Shapes.{is_same, same_bool}
-use Rattle.set_signatures.specs.declared.shape.Shape.{Shape}
 use Rattle.set_program.specs.Numbering.{Cell, walk}
-use Rattle.set_program.proofs.PlaceLaws.{AllFail, fail_append}
+use Rattle.set_program.proofs.PlaceLaws.{AllFail}
 use Rattle.set_program.proofs.NumberLaws.{range_split}
-use Rattle.members.specs.OutsideMembers.{same_member, member_place, added_member}
+use Rattle.members.specs.OutsideMembers.{same_member, member_place}
 use Rattle.members.specs.declared.outside_member.OutsideMember.{OutsideMember}
 use Rattle.members.specs.declared.assembly_members.AssemblyMembers.{AssemblyMembers}
 use Rattle.members.specs.declared.set_type.SetType.{SetType}
@@ -19,10 +18,10 @@ use Rattle.member_table.specs.declared.named.Named.{Named}
 use Rattle.member_table.specs.declared.named.Named.TheVariants as named
 use Rattle.member_table.specs.Environments.{Environment, environment, environment_in, AreOf}
 use Rattle.member_table.specs.Members.{member_in}
-use Rattle.member_table.specs.Numbers.{if_kind, outside_of, outside_in, added_if, all_noted, names_member, references_in, reference_rows, outside_members, outside_row}
+use Rattle.member_table.specs.Numbers.{outside_of, outside_in, added_if, all_noted, names_member, references_in, reference_rows, outside_members, outside_row}
 use Rattle.member_table.proofs.EnvironmentLaws.{environment_same, many}
 use Rattle.member_numbers.specs.declared.noting.Noted.{Noted}
-use Rattle.member_numbers.specs.Noted.{first_row, AreNoted, added_row, row_if}
+use Rattle.member_numbers.specs.Noted.{first_row, AreNoted, row_if}
 
 -- ---- equal members
 

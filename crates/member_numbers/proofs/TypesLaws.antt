@@ -1,6 +1,6 @@
 -- The types of a set in order, by the parts that are pushed.
 use Rattle.std.proofs.Common.{◌≡◌, ◌∙◌, sym, ap, refl, arith, append_assoc, ℕ, zero, suc, ◌+◌, ◌-◌, ◌<◌, ◌≤◌, List, [], ◌∷◌, ◌++◌, take, get_or, length, length-append}
-use Rattle.std.specs.Prelude.{map, flat_map, slice_get, Option, Some}
+use Rattle.std.specs.Prelude.{map, flat_map, slice_get, Some}
 use Rattle.std.specs.List.{range_with_len}
 use Rattle.std.proofs.lemmas.List.{map-append, length-map, append-nil}
 use Rattle.std.proofs.lemmas.List.FromFn.{length-range_with_len, map-range_with_len_more}
@@ -12,8 +12,7 @@ use Rattle.set_names.specs.Names.{Name}
 use Rattle.set_rows.specs.Sets.{Assembly, Assemblies, assembly_at, count_in}
 use Rattle.set_types.specs.CodedTypes.{coded_of}
 use Rattle.set_types.specs.declared.coded.CodedTypes.{CodedTypes}
-use Rattle.set_program.specs.declared.identity.TypeId.{TypeId}
-use Rattle.set_program.specs.declared.identity.TypeId.TheVariants.{Row, Outside}
+use Rattle.set_program.specs.declared.identity.TypeId.TheVariants.{Outside}
 use Rattle.set_program.specs.Numbering.{Cell, type_cut, rows_between, outside_names, of_row, old_rows, new_rows, type_ids}
 use Rattle.set_program.specs.Attributes.{attribute_outside}
 use Rattle.set_program.specs.Environment.{types_of, coded_in}
@@ -21,7 +20,7 @@ use Rattle.members.specs.declared.assembly_members.AssemblyMembers.{AssemblyMemb
 use Rattle.members.specs.declared.set_type.SetType.{SetType}
 use Rattle.member_table.specs.Environments.{Environment, environment, environment_in, set_type, set_types, AreOf}
 use Rattle.member_table.proofs.EnvironmentLaws.{environment_same, many}
-use Rattle.type_table.proofs.NumberingLaws.{cut_low, cut_high}
+use Rattle.type_table.proofs.NumberingLaws.{cut_low}
 use Rattle.member_numbers.specs.Types.{type_at, types_from, types_in, outside_type, outside_types, all_in}
 
 -- ---- lists

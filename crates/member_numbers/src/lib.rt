@@ -12,5 +12,6 @@ mod numbers;
 mod table;
 mod types;
 
+pub use cuts::{members_before_class, types_before_class};
 pub use numbers::MemberNumbers;
 pub use table::member_table;

@@ -1,4 +1,4 @@
-use Rattle.std.proofs.Common.{◌≡◌, ◌∙◌, ap, arith, ◌-◌, ◌<◌, ℕ}
+use Rattle.std.proofs.Common.{◌∙◌, ap, arith, ◌-◌, ◌<◌, ℕ}
 use Rattle.cil_base.specs.declared.tables.TheConstants.{TYPE_DEF}
 use Rattle.set_rows.specs.Sets.{count_in}
 use Rattle.member_numbers.proofs.CutLaws.{owned_past, owned_at}

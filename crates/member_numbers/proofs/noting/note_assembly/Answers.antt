@@ -1,9 +1,6 @@
-use Rattle.std.proofs.Common.{◌≡◌, ◌∙◌, sym, subst, arith, ℕ, List, ◌++◌, map}
+use Rattle.std.proofs.Common.{◌≡◌, ◌∙◌, sym, subst, arith, ℕ, ◌++◌, map}
 use Rattle.std.specs.List.{range_with_len}
 use Rattle.std.proofs.lemmas.List.{append-nil}
-use Rattle.cil_base.specs.declared.tables.TheConstants.{MEMBER_REF}
-use Rattle.set_rows.specs.Sets.{count_in}
-use Rattle.set_program.specs.Numbering.{Cell}
 use Rattle.member_table.specs.Environments.{environment_in}
 use Rattle.member_table.specs.Numbers.{outside_in}
 use Rattle.member_numbers.specs.Noted.{AreNoted}

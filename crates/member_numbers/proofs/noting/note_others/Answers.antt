@@ -4,7 +4,7 @@ use Rattle.std.specs.List.{range_with_len}
 use Rattle.member_table.specs.Environments.{environment_in}
 use Rattle.member_table.specs.Numbers.{outside_in, references_in}
 use Rattle.member_numbers.specs.Noted.{AreNoted}
-use Rattle.member_numbers.proofs.NotedLaws.{none_noted, assembly_noted}
+use Rattle.member_numbers.proofs.NotedLaws.{assembly_noted}
 use Rattle.member_numbers.proofs.noting.note_others.Goals as goal
 
 pub loop-k-preserved : goal.loop-k-preserved

@@ -1,5 +1,5 @@
 use Rattle.member_numbers.proofs.noting.with_member.Goals.{then-before-len+in_ok-push, else-before-len}
-use Rattle.std.proofs.Common.{◌≡◌, ◌∙◌, ap, arith, length, List, [], ◌∷◌, ◌++◌}
+use Rattle.std.proofs.Common.{◌≡◌, ◌∙◌, ap, arith, length, [], ◌∷◌, ◌++◌}
 use Rattle.std.specs.Prelude.{is_some}
 use Rattle.set_program.specs.Numbering.{Cell}
 use Rattle.members.specs.OutsideMembers.{member_place}

@@ -1,4 +1,4 @@
-use Rattle.std.proofs.Common.{◌≡◌, ◌∙◌, ap, arith, ◌+◌, ℕ, []}
+use Rattle.std.proofs.Common.{◌≡◌, ◌∙◌, ap, arith, ◌+◌, []}
 use Rattle.member_table.specs.Environments.{environment_in}
 use Rattle.member_numbers.specs.Types.{type_at}
 use Rattle.member_numbers.proofs.TypesLaws.{pushed_row}

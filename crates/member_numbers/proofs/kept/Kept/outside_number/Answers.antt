@@ -1,5 +1,5 @@
 use Rattle.std.proofs.Common.{◌≡◌, ◌∙◌, sym, ap, arith, ◌+◌, ◌≤◌, ℕ, length}
-use Rattle.std.specs.Prelude.{option_map, Some, None}
+use Rattle.std.specs.Prelude.{option_map}
 use Rattle.members.specs.MemberRows.{member_table}
 use Rattle.member_numbers.specs.Kept.{rows_before}
 use Rattle.member_numbers.proofs.KeptLaws.{outside_fits, outside_is}
