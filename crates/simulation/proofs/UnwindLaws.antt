@@ -39,7 +39,7 @@ use Rattle.machine_laws.specs.Answers.{is_below}
 use Rattle.splice_facts.specs.Layout.{Marks, Keeps, IsHere, CanArrive}
 use Rattle.splice_facts.specs.Spliced.{Beside, twin, stands, Arrives, OpensAt, ContinuesAt, Paired, Spliced, Groups, FitsGroup, leaves_with, moved_found, is_guarded, cost, opening_cost, wrapper_cost}
 use Rattle.splice_facts.specs.Exceptions.{IsObject, FailureThere}
-use Rattle.splice_facts.proofs.ExceptionLaws.{more_object, more_failures, set_failures, new_object, longer, is_exception}
+use Rattle.splice_facts.proofs.ExceptionLaws.{more_failures, set_failures, new_object, longer, is_exception}
 use Rattle.splice_facts.specs.Input.{is_group, LandsAt}
 use Rattle.splice_facts.specs.Related.{Rewritten, HandlingPair, HandlingPairs, Waits, FramePair, Under, Frames, Related, laid_by, ValidFrame, ValidFrames, count_groups, in_group}
 use Rattle.splice_facts.specs.Related as Pairs

@@ -1,8 +1,8 @@
 -- Calls of settled members in both runs.
 use Rattle.std.proofs.Common.{◌≡◌, ℕ, suc, ◌+◌, ◌*◌, ◌<◌, ◌≤◌, Bool, true, false, List, [], ◌∷◌, length, Option, Some, None, refl, sym, ap, ◌∙◌, subst, arith}
-use Rattle.std.specs.Prelude.{slice_get, option_map, option_and_then, ◌==◌, if◌then◌else◌, IsTrue, map, codes, not, ◌&&◌, ◌||◌, is_some}
+use Rattle.std.specs.Prelude.{slice_get, option_map, option_and_then, ◌==◌, if◌then◌else◌, IsTrue, codes, not, ◌&&◌, ◌||◌, is_some}
 use Rattle.cil_model.specs.declared.ty.Ty.{Ty, out-Ty}
-use Rattle.cil_model.specs.declared.value.Value.{Value, out-Value, Obj}
+use Rattle.cil_model.specs.declared.value.Value.{Value, out-Value}
 use Rattle.cil_model.specs.declared.contract.Contracts.{Contracts}
 use Rattle.cil_model.specs.declared.program.Program.{Program}
 use Rattle.cil_model.specs.declared.program.MethodDesc.{MethodDesc}
@@ -12,7 +12,6 @@ use Rattle.cil_semantics.specs.Types.{under, same_ty, same_tys}
 use Rattle.cil_semantics.specs.Core.{Name, class_named, object_ty, string_ty, core_classes, contract_name, helper_name, event_name, event_params}
 use Rattle.cil_semantics.specs.Lookups.{type_of, method_of, args_of}
 use Rattle.cil_semantics.specs.Dispatch.{has_bit}
-use Rattle.cil_semantics.specs.declared.state.Cell.{Cell}
 use Rattle.cil_semantics.specs.Places.{storage, is_void, default_value}
 use Rattle.cil_semantics.specs.State as state
 use Rattle.cil_semantics.specs.declared.state.World.{World}
@@ -23,13 +22,13 @@ use Rattle.cil_semantics.specs.declared.state.Continuation.{Continuation}
 use Rattle.cil_semantics.specs.declared.state.Continuation.TheVariants.{Push}
 use Rattle.cil_semantics.specs.Acts.{ty_name, member_name}
 use Rattle.cil_semantics.specs.Unwind.{unwind, raise}
-use Rattle.cil_semantics.specs.Frames.{stuck, if_there, stored_args, param_types, enter}
+use Rattle.cil_semantics.specs.Frames.{stuck, if_there, param_types, enter}
 use Rattle.cil_semantics.specs.Outside.{Answer, Returned, Threw, Unfit, Member, ask, is_outside, member_of, default_reply}
 use Rattle.cil_semantics.specs.Frames.{next_try}
 use Rattle.cil_semantics.specs.declared.state.Remaining.{Remaining}
 use Rattle.cil_semantics.specs.declared.state.Remaining.TheVariants.{Range, Elements}
 use Rattle.cil_semantics.specs.Returns.{push_below, try_next}
-use Rattle.cil_semantics.specs.Calls.{is_event, CoreMember, Constructor, Equality, Concatenation, TextLength, IsNullOrEmpty, Quantifier, NotCore, is_core_exception, is_named, is_outside_type, are_strings, string_member, core_of, string_answer, number_in, array_in, count_units, texted, Texted, NullText, SomeText, NotText, first_texted, on_answer, with_default, outside_call, plain_call, call_core, call_member, quantify}
+use Rattle.cil_semantics.specs.Calls.{is_event, CoreMember, Constructor, Equality, Concatenation, TextLength, IsNullOrEmpty, Quantifier, NotCore, is_core_exception, is_named, is_outside_type, are_strings, string_member, core_of, string_answer, number_in, array_in, count_units, Texted, NullText, SomeText, NotText, first_texted, on_answer, with_default, outside_call, plain_call, call_core, call_member, quantify}
 use Rattle.cil_semantics.specs.Checks.{AddedNumbers}
 use Rattle.splice_facts.proofs.ExceptionLaws.{more_failures, longer, new_object}
 use Rattle.splice_facts.specs.Bodies.{with_methods}
@@ -40,7 +39,7 @@ use Rattle.splice_facts.specs.Related.{Rewritten, Under, count_groups}
 use Rattle.splice_facts.specs.Related as Pairs
 use Rattle.simulation_steps.specs.Outside as Alike
 use Rattle.simulation_objects.specs.Calls as Sites
-use Rattle.simulation.proofs.ProgramLaws.{fun_ext, storage_same, default_same, sub_same, with_object_same}
+use Rattle.simulation.proofs.ProgramLaws.{storage_same, default_same, sub_same}
 use Rattle.simulation.proofs.ArriveLaws as Arriving
 use Rattle.simulation.proofs.UnwindLaws as Unwinding
 use Rattle.simulation.proofs.UnwindLaws.{unwinds}

@@ -1,14 +1,14 @@
 -- The body that a virtual call runs is the same in two programs that differ in their bodies.
-use Rattle.std.proofs.Common.{◌≡◌, ℕ, zero, suc, Bool, true, false, List, [], ◌∷◌, ◌++◌, Option, Some, None, refl, ap, ◌∙◌}
-use Rattle.std.specs.Prelude.{◌&&◌, ◌||◌, ◌==◌, not, bytes_eq, if◌then◌else◌, map, filter, find, reverse, option_map, option_and_then, is_none, is_some}
+use Rattle.std.proofs.Common.{◌≡◌, ℕ, zero, suc, Bool, false, List, [], ◌∷◌, ◌++◌, Option, Some, None, refl, ap, ◌∙◌}
+use Rattle.std.specs.Prelude.{◌&&◌, ◌||◌, ◌==◌, not, bytes_eq, if◌then◌else◌, map, filter, find, reverse, option_map, option_and_then, is_none}
 use Rattle.cil_model.specs.declared.ty.Ty.{Ty, out-Ty}
 use Rattle.cil_model.specs.declared.program.Program.{Program}
 use Rattle.cil_model.specs.declared.program.Impl.{Impl}
 use Rattle.cil_model.specs.declared.program.MethodDesc.{MethodDesc}
 use Rattle.cil_semantics.specs.Words.{any, or_else, first_some, only, maybe}
 use Rattle.cil_semantics.specs.Types.{under, same_ty}
-use Rattle.cil_semantics.specs.Lookups.{method_of, in_set, args_of, base_of, interfaces_of, chain, most_bases}
-use Rattle.cil_semantics.specs.Dispatch.{Seen, is_virtual, takes_new_slot, is_public, same_seen, same_signature, same_shape, methods_of, impls_of, owner_among, seen_in, owner_args, row_counts, row_names, by_rows, bases, virtual_like, hidden_by, overrides, overrides_outside, public_like, first_row, implementing, is_interface, interface_slot, slot_of, overriders, bodies_in, chosen, nearest, body_for}
+use Rattle.cil_semantics.specs.Lookups.{method_of, in_set, args_of, chain, most_bases}
+use Rattle.cil_semantics.specs.Dispatch.{Seen, is_virtual, takes_new_slot, is_public, same_seen, same_signature, same_shape, methods_of, impls_of, owner_among, seen_in, row_counts, row_names, by_rows, bases, virtual_like, hidden_by, overrides, overrides_outside, public_like, first_row, implementing, is_interface, interface_slot, slot_of, overriders, bodies_in, chosen, nearest, body_for}
 use Rattle.cil_semantics.specs.Calls.{body_seen, own_body}
 use Rattle.splice_facts.specs.Bodies.{with_methods, SameMethods}
 use Rattle.simulation.proofs.ProgramLaws.{chain_within_same, base_same, interfaces_same}

@@ -1,6 +1,6 @@
 -- Pointers among the arguments of a call lead to places that are there, as the values that are passed do.
-use Rattle.std.proofs.Common.{◌≡◌, ℕ, suc, Bool, true, false, List, [], ◌∷◌, Option, Some, None, refl, sym, ap, ◌∙◌, subst}
-use Rattle.std.specs.Prelude.{option_map, option_and_then, map}
+use Rattle.std.proofs.Common.{◌≡◌, ℕ, suc, List, [], ◌∷◌, Option, Some, None, refl, sym, ap, ◌∙◌, subst}
+use Rattle.std.specs.Prelude.{option_map, option_and_then}
 use Rattle.cil_model.specs.declared.ty.Ty.{Ty, out-Ty}
 use Rattle.cil_model.specs.declared.ty.Ty.TheOpen.{Ty-F}
 use Rattle.cil_model.specs.declared.value.Value.{Value, out-Value}
@@ -11,7 +11,6 @@ use Rattle.cil_model.specs.declared.contract.Contracts.{Contracts}
 use Rattle.cil_model.specs.declared.program.Program.{Program}
 use Rattle.cil_model.specs.declared.program.MethodDesc.{MethodDesc}
 use Rattle.cil_semantics.specs.Words.{maybe}
-use Rattle.il_opcodes.specs.declared.class.Storage.{Storage}
 use Rattle.il_opcodes.specs.declared.class.Storage.TheVariants.{Address}
 use Rattle.cil_semantics.specs.declared.state.Cell.{Cell}
 use Rattle.cil_semantics.specs.Places.{storage, storage_at, if_address, stored_within, stored_by_storage, stored_in, field_types, new_cell}

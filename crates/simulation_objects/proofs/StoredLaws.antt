@@ -22,7 +22,7 @@ use Rattle.cil_semantics.specs.State.{object_at}
 use Rattle.cil_semantics.specs.Unwind.{find_statics}
 use Rattle.cil_semantics.specs.Frames.{frame_at, cell_in, static_cells, static_path, read}
 use Rattle.cil_semantics.specs.Numbers.{truncated_small}
-use Rattle.cil_semantics.specs.Places.{storage, stored, if_reference, if_address, if_struct, if_opaque, if_long, to_native, truncated_value, each_stored, stored_struct, stored_by_storage, stored_within, stored_in, field_types, new_cell, fields_in, read_path, default_by_storage, default_within, default_cells, static_layout}
+use Rattle.cil_semantics.specs.Places.{storage, if_reference, if_address, if_opaque, if_long, to_native, truncated_value, each_stored, stored_struct, stored_by_storage, stored_within, stored_in, field_types, new_cell, fields_in, read_path, default_by_storage, default_within, default_cells, static_layout}
 use Rattle.splice_facts.specs.WellFormed.{Bounds, WellFormedValue, AllWellFormed, WellFormedValues, WellFormedCells, WellFormedLocal, WellFormedObjects, WellFormedStatics, WellFormedWorld}
 use Rattle.simulation_objects.specs.Calls.{WellFormedFrames}
 

@@ -1,7 +1,7 @@
 -- Virtual and constrained calls in both runs, and ldvirtftn.
-use Rattle.std.proofs.Common.{◌≡◌, ℕ, suc, ◌+◌, ◌*◌, ◌<◌, ◌≤◌, Bool, true, false, List, [], ◌∷◌, ◌++◌, length, Option, Some, None, refl, sym, ap, ◌∙◌, subst, arith}
+use Rattle.std.proofs.Common.{◌≡◌, ℕ, suc, ◌+◌, ◌*◌, ◌<◌, Bool, true, false, List, [], ◌∷◌, ◌++◌, length, Option, Some, None, refl, sym, ap, ◌∙◌, subst, arith}
 use Rattle.std.specs.Prelude.{◌&&◌, bytes_eq, if◌then◌else◌, option_and_then, IsTrue, codes}
-use Rattle.cil_model.specs.declared.ty.Ty.{Ty, out-Ty}
+use Rattle.cil_model.specs.declared.ty.Ty.{Ty}
 use Rattle.cil_model.specs.declared.value.Value.{Value, out-Value, Obj, Ptr}
 use Rattle.cil_model.specs.declared.value.Value as val
 use Rattle.cil_model.specs.declared.value.Value.TheOpen.{Value-F}
@@ -25,7 +25,7 @@ use Rattle.cil_semantics.specs.Unwind.{raise}
 use Rattle.cil_semantics.specs.Frames.{stuck, if_there, read, this_value, gives_value, enter_delegate}
 use Rattle.cil_semantics.specs.Outside.{is_outside}
 use Rattle.cil_semantics.specs.Returns.{push_below}
-use Rattle.cil_semantics.specs.Calls.{CoreMember, Constructor, Equality, Concatenation, TextLength, IsNullOrEmpty, Quantifier, NotCore, core_of, outside_call, plain_call, call_core, body_seen, own_body, call_unfound, call_found, is_invoke, may_be_delegate, is_delegate_at, call_on, pointed, call_boxed, call_struct, call_constrained, call_virtual_on, call_virtual, function_of, find_virtual_on}
+use Rattle.cil_semantics.specs.Calls.{CoreMember, Constructor, Equality, Concatenation, TextLength, IsNullOrEmpty, Quantifier, NotCore, core_of, outside_call, plain_call, body_seen, own_body, call_unfound, call_found, is_invoke, may_be_delegate, is_delegate_at, call_on, pointed, call_boxed, call_struct, call_constrained, call_virtual_on, call_virtual, function_of, find_virtual_on}
 use Rattle.cil_semantics.specs.Checks.{AddedNumbers}
 use Rattle.splice_facts.proofs.ExceptionLaws.{more_failures, longer}
 use Rattle.splice_facts.specs.Bodies.{with_methods}
@@ -33,7 +33,6 @@ use Rattle.splice_facts.specs.Grown.{beside}
 use Rattle.machine_laws.specs.Answers.{is_below}
 use Rattle.splice_facts.specs.WellFormed.{WellFormedPointer, WellFormedValue, WellFormedValues, WellFormedObjects}
 use Rattle.splice_facts.specs.Related.{Rewritten, bounds}
-use Rattle.splice_facts.specs.Related as Pairs
 use Rattle.simulation_objects.specs.Calls as Sites
 use Rattle.simulation.proofs.ProgramLaws.{storage_same, new_cell_same, with_object_same}
 use Rattle.simulation.proofs.ArriveLaws as Arriving

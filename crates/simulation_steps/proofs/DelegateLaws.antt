@@ -1,5 +1,5 @@
 -- Delegates are entered in both runs, and ForAll and Exists try what is left.
-use Rattle.std.proofs.Common.{◌≡◌, ℕ, zero, suc, ◌+◌, ◌*◌, ◌<◌, ◌≤◌, Bool, true, false, List, [], ◌∷◌, length, Option, Some, None, refl, sym, ap, ◌∙◌, subst, arith}
+use Rattle.std.proofs.Common.{◌≡◌, ℕ, zero, suc, ◌+◌, ◌<◌, ◌≤◌, Bool, true, false, List, [], ◌∷◌, length, Option, Some, None, refl, sym, ap, ◌∙◌, subst, arith}
 use Rattle.std.proofs.Common.{lt-ltb}
 use Rattle.std.specs.Prelude.{◌&&◌, not, if◌then◌else◌, slice_get, option_and_then, is_some, IsTrue}
 use Rattle.cil_model.specs.declared.ty.Ty.{Ty, Known}

@@ -1,6 +1,6 @@
 -- Clauses end, failures are reported, and old values are captured.
-use Rattle.std.proofs.Common.{◌≡◌, ℕ, zero, suc, Bool, true, false, List, [], ◌∷◌, Option, Some, None, refl, sym, ap, ◌∙◌, subst}
-use Rattle.std.specs.Prelude.{if◌then◌else◌, option_map, option_and_then, slice_get}
+use Rattle.std.proofs.Common.{◌≡◌, ℕ, Bool, true, false, List, [], ◌∷◌, Option, Some, None, refl, sym, ap, ◌∙◌, subst}
+use Rattle.std.specs.Prelude.{if◌then◌else◌, option_map, option_and_then}
 use Rattle.cil_model.specs.declared.ty.Ty.{Ty}
 use Rattle.cil_model.specs.declared.value.Value.{Value, out-Value, Obj, Text, Null}
 use Rattle.cil_model.specs.declared.value.Value.TheOpen.{Value-F}
@@ -15,7 +15,7 @@ use Rattle.cil_semantics.specs.Places.{storage, is_void, stored, set_cell}
 use Rattle.cil_semantics.specs.declared.state.Object.{Object}
 use Rattle.cil_semantics.specs.declared.state.World.{World}
 use Rattle.cil_semantics.specs.declared.state.Frame.{Frame}
-use Rattle.cil_semantics.specs.State.{Next, object_at, next_object, with_object}
+use Rattle.cil_semantics.specs.State.{Next, next_object, with_object}
 use Rattle.cil_semantics.specs.Outside.{Answer, Returned, Threw, Unfit, ask}
 use Rattle.cil_semantics.specs.Checks.{AddedNumbers, Failure, Sequel, Condition, condition_from, condition_in, number_value, label_text, event_member, trigger_member, contract_failure, made_type, throw_exception, triggered, fail_with, replied, reported, failing}
 use Rattle.splice_facts.specs.WellFormed.{Bounds, WellFormedValue, WellFormedValues, WellFormedWorld}

@@ -12,18 +12,12 @@ use Rattle.cil_semantics.specs.declared.state.ProgramPoint.TheVariants.{InGroup}
 use Rattle.cil_model.specs.declared.contract.Group.TheVariants as group
 use Rattle.cil_semantics.specs.declared.state.Handling.{Handling}
 use Rattle.cil_semantics.specs.declared.state.Frame.{Frame}
-use Rattle.cil_semantics.specs.State.{State, Next, Running, Ended, object_at}
-use Rattle.cil_semantics.specs.declared.state.Object.{Object}
-use Rattle.cil_model.specs.declared.value.Value.{Value, out-Value}
-use Rattle.cil_model.specs.declared.value.Value.TheOpen.{Value-F}
+use Rattle.cil_semantics.specs.State.{State, Next, Running, Ended}
 use Rattle.cil_semantics.specs.declared.state.Continuation.{Continuation}
 use Rattle.cil_semantics.specs.declared.state.Continuation.TheVariants.{PushStruct, BeginCallee}
 use Rattle.cil_semantics.specs.Contracted.{Plan}
 use Rattle.cil_semantics.specs.Unwind.{plan_at, here_of, next_place, hasnt_begun, unwind}
-use Rattle.cil_semantics.specs.Frames.{captured_tys, first_place, parts_of}
-use Rattle.cil_semantics.specs.Lookups.{method_of}
-use Rattle.cil_semantics.specs.Places.{storage, is_void}
-use Rattle.cil_semantics.specs.Returns.{result_type}
+use Rattle.cil_semantics.specs.Frames.{captured_tys, first_place}
 use Rattle.cil_semantics.specs.Checks.{AddedNumbers}
 use Rattle.machine_laws.specs.Answers.{is_below}
 pub use Rattle.splice_facts.specs.WellFormed.{NoneVoid}

@@ -10,8 +10,6 @@ use Rattle.cil_model.specs.declared.contract.ClauseKind.TheVariants as kind
 use Rattle.cil_model.specs.declared.contract.Group.{Group}
 use Rattle.cil_model.specs.declared.program.Program.{Program}
 use Rattle.cil_model.specs.declared.program.MethodDesc.{MethodDesc}
-use Rattle.cil_model.specs.declared.program.Meaning.{Meaning}
-use Rattle.cil_model.specs.declared.program.Meaning.TheVariants.{OfField, OfMethod}
 use Rattle.cil_model.specs.declared.run.Reply.{Reply}
 use Rattle.cil_model.specs.NoContracts.{no_contracts}
 use Rattle.il_opcodes.specs.declared.class.Storage.{Storage}
@@ -21,13 +19,12 @@ use Rattle.il_opcodes.specs.Opcodes.{class_of}
 use Rattle.cil_semantics.specs.Core.{Name}
 use Rattle.cil_semantics.specs.Lookups.{args_of}
 use Rattle.cil_semantics.specs.Places.{storage, is_void}
-use Rattle.cil_semantics.specs.Tokens.{ref_type, meaning_here}
+use Rattle.cil_semantics.specs.Tokens.{ref_type}
 use Rattle.cil_semantics.specs.declared.state.Cell.{Cell}
 use Rattle.cil_semantics.specs.declared.state.World.{World}
 use Rattle.cil_semantics.specs.declared.state.Local.{Local}
 use Rattle.cil_semantics.specs.declared.state.ProgramPoint.TheVariants.{InGroup}
 use Rattle.cil_semantics.specs.declared.state.Cause.{Cause}
-use Rattle.cil_semantics.specs.declared.state.Cause.TheVariants.{Leaving}
 use Rattle.cil_semantics.specs.declared.state.Handling.{Handling}
 use Rattle.cil_semantics.specs.declared.state.Frame.{Frame}
 use Rattle.cil_semantics.specs.declared.state.Access.{Access}

@@ -1,13 +1,12 @@
 -- Each type is under System.Object, where the types of a program name core classes as their bases.
-use Rattle.std.proofs.Common.{◌≡◌, ℕ, zero, suc, Bool, true, false, List, [], ◌∷◌, ◌++◌, Some, None, Option, refl, sym, ap, ◌∙◌, subst}
+use Rattle.std.proofs.Common.{◌≡◌, ℕ, zero, suc, Bool, true, false, List, [], ◌∷◌, ◌++◌, Some, None, Option, refl, ap, ◌∙◌}
 use Rattle.std.specs.Prelude.{if◌then◌else◌, ◌||◌, ◌==◌, find, codes, bytes_eq, option_to_list}
-use Rattle.cil_model.specs.declared.ty.Ty.{Ty, out-Ty, Prim, Known, Outside, Array', ByRef', Var, MVar, Opaque, Inst'}
+use Rattle.cil_model.specs.declared.ty.Ty.{Ty, Prim, Known, Outside, Array', ByRef', Var, MVar, Opaque, Inst'}
 use Rattle.cil_model.specs.declared.program.Program.{Program}
-use Rattle.cil_model.specs.declared.program.TypeDesc.{TypeDesc}
 use Rattle.cil_semantics.specs.Words.{any, maybe}
 use Rattle.cil_semantics.specs.Types.{under, same_ty}
 use Rattle.cil_semantics.specs.Core.{Name, object_ty, class_named, core_classes, leaf_base, outside_base, base_or, ends_with, failure_kind}
-use Rattle.cil_semantics.specs.Lookups.{is_sub, is_sub_within, base_of, interfaces_of, in_set, type_of, most_bases}
+use Rattle.cil_semantics.specs.Lookups.{is_sub_within, base_of, interfaces_of, type_of}
 use Rattle.machine_laws.specs.Answers.{Each}
 use Rattle.machine_rows.specs.Everything.{everything}
 

@@ -1,9 +1,8 @@
 -- A step at call or newobj.
-use Rattle.std.proofs.Common.{◌≡◌, ℕ, zero, suc, ◌+◌, ◌<◌, ◌≤◌, Bool, true, false, List, [], ◌∷◌, ◌++◌, length, Option, Some, None, refl, sym, ap, ◌∙◌, subst, arith}
-use Rattle.std.specs.Prelude.{if◌then◌else◌, nat_le, take, drop, reverse, IsTrue}
+use Rattle.std.proofs.Common.{◌≡◌, ℕ, zero, suc, ◌<◌, Bool, true, false, List, [], ◌∷◌, ◌++◌, length, Option, Some, None, refl, sym, subst, arith}
+use Rattle.std.specs.Prelude.{if◌then◌else◌, nat_le, take, drop, reverse}
 use Rattle.std.proofs.lemmas.Grind.{reverse_onto}
 use Rattle.cil_model.specs.declared.body.Instr.{Instr}
-use Rattle.cil_model.specs.declared.ty.Ty.{Ty}
 use Rattle.cil_model.specs.declared.value.Value.{Value}
 use Rattle.cil_model.specs.declared.contract.Contracts.{Contracts}
 use Rattle.cil_model.specs.declared.program.Program.{Program}
@@ -11,31 +10,27 @@ use Rattle.cil_model.specs.declared.program.MethodDesc.{MethodDesc}
 use Rattle.cil_model.specs.declared.program.Meaning.{Meaning}
 use Rattle.cil_model.specs.declared.program.Meaning.TheVariants.{OfMethod}
 use Rattle.il_opcodes.specs.Opcodes.{class_of}
-use Rattle.il_opcodes.specs.declared.class.Class.{Class}
 use Rattle.il_opcodes.specs.declared.class.Class.TheVariants as class
-use Rattle.cil_semantics.specs.Lookups.{args_of}
-use Rattle.cil_semantics.specs.declared.state.Local.{Local}
 use Rattle.cil_semantics.specs.declared.state.World.{World}
 use Rattle.cil_semantics.specs.declared.state.Frame.{Frame}
 use Rattle.cil_semantics.specs.State.{Next, with_stack}
 use Rattle.cil_semantics.specs.Tokens.{meaning_here}
 use Rattle.cil_semantics.specs.Unwind.{plan_at, here_of}
 use Rattle.cil_semantics.specs.Contracted.{Plan}
-use Rattle.cil_semantics.specs.Acts.{Act, Stuck, CallMember, NewObject, Call, taken, with_this, arity, method_in}
+use Rattle.cil_semantics.specs.Acts.{Act, Stuck, CallMember, NewObject, taken, with_this, arity, method_in}
 use Rattle.cil_semantics.specs.Instructions.{act, act_of_class}
 use Rattle.cil_semantics.specs.Calls.{core_of}
 use Rattle.cil_semantics.specs.Machine.{perform, run_plain}
 use Rattle.cil_semantics.specs.Checks.{AddedNumbers}
-use Rattle.machine_laws.specs.Answers.{is_below}
 use Rattle.splice_facts.specs.Layout.{IsHere, fetch}
-use Rattle.splice_facts.specs.WellFormed.{Bounds, NoneVoid, WellFormedValues}
+use Rattle.splice_facts.specs.WellFormed.{Bounds, WellFormedValues}
 use Rattle.splice_facts.specs.Input.{LeavesHeight, result_count, is_group}
 use Rattle.splice_facts.specs.Related.{Rewritten, NamesInput, HasHeight, bounds}
 use Rattle.simulation_valid.specs.Keeping.{StaysValid, ValidPlaces}
-use Rattle.simulation_valid.specs.Steps.{RunsHere, MayCall}
+use Rattle.simulation_valid.specs.Steps.{RunsHere}
 use Rattle.simulation_valid.proofs.MoveValidLaws.{relocal}
 use Rattle.simulation_valid.proofs.UnwindValidLaws.{places_of, restacked}
-use Rattle.valid_calls.specs.Members.{GivesAsDescribed, MayMake, NamesGiving}
+use Rattle.valid_calls.specs.Members.{GivesAsDescribed, NamesGiving}
 use Rattle.valid_calls.proofs.MemberLaws.{members_valid}
 use Rattle.valid_calls.proofs.NewValidLaws.{makes_valid}
 

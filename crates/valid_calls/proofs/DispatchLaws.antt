@@ -1,9 +1,8 @@
 -- Which law keeps the state valid, by where the topmost frame stands and what stands there.
-use Rattle.std.proofs.Common.{◌≡◌, ℕ, zero, suc, Bool, true, false, List, [], ◌∷◌, Option, Some, None, refl, sym, ap, ◌∙◌, subst}
+use Rattle.std.proofs.Common.{◌≡◌, ℕ, Bool, true, false, List, ◌∷◌, Option, Some, None, refl, sym, ap, ◌∙◌, subst}
 use Rattle.std.proofs.lemmas.Bool.{eqb-true}
-use Rattle.std.specs.Prelude.{slice_get, ◌==◌, if◌then◌else◌, option_map, option_and_then, take}
+use Rattle.std.specs.Prelude.{slice_get, ◌==◌, if◌then◌else◌, option_map, option_and_then}
 use Rattle.cil_model.specs.declared.body.Instr.{Instr}
-use Rattle.cil_model.specs.declared.body.Operand.{Operand}
 use Rattle.cil_model.specs.declared.contract.ClauseKind.{ClauseKind}
 use Rattle.cil_model.specs.declared.contract.Contracts.{Contracts}
 use Rattle.cil_model.specs.declared.contract.Group.{Group}
@@ -18,20 +17,19 @@ use Rattle.cil_model.specs.declared.value.Pointer.{Pointer}
 use Rattle.il_opcodes.specs.Opcodes.{class_of}
 use Rattle.il_opcodes.specs.declared.class.Class.{Class}
 use Rattle.il_opcodes.specs.declared.class.Class.TheVariants as class
-use Rattle.cil_semantics.specs.Words.{maybe}
 use Rattle.cil_semantics.specs.Core.{Name}
 use Rattle.cil_semantics.specs.Places.{storage}
 use Rattle.cil_semantics.specs.Tokens.{meaning_here, own_meaning}
 use Rattle.cil_semantics.specs.Contracted.{Piece, Plan}
-use Rattle.cil_semantics.specs.Unwind.{body_of, plan_at, piece_at, here_of, place_in}
-use Rattle.cil_semantics.specs.Frames.{if_there, load, go_on}
+use Rattle.cil_semantics.specs.Unwind.{body_of, plan_at, piece_at, here_of}
+use Rattle.cil_semantics.specs.Frames.{if_there, load}
 use Rattle.cil_semantics.specs.Calls.{pointed}
 use Rattle.cil_semantics.specs.ContractCalls.{contract_call, static_call, abbreviator_call}
 use Rattle.cil_semantics.specs.declared.contract_call.ContractCall.{ContractCall}
 use Rattle.cil_semantics.specs.declared.contract_call.ContractCall.TheVariants.{EndsClause, EndsBlock, Abbreviates, GivesResult, ReadsArgument, TakesOld, ChecksHere, NoContractCall}
 use Rattle.cil_semantics.specs.Checks.{AddedNumbers, recalled, inline_label, inline_number, capture}
 use Rattle.cil_semantics.specs.Machine.{relocated, relocated_instr, run_plain, run_in_body, run_in_piece, read_argument, step_piece, step_body, step_at, step_frames, step}
-use Rattle.cil_semantics.specs.State.{Next, Running, Ended, unrecorded, recorded_after, goes_after, with_stack}
+use Rattle.cil_semantics.specs.State.{Next, Running, Ended, unrecorded, goes_after, with_stack}
 use Rattle.cil_semantics.specs.declared.state.Frame.{Frame}
 use Rattle.cil_semantics.specs.declared.state.Item.{Item}
 use Rattle.cil_semantics.specs.declared.state.ProgramPoint.{ProgramPoint}

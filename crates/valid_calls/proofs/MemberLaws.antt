@@ -1,6 +1,6 @@
 -- A call of a member: core members push what they answer, ForAll and Exists call their delegate, others are called plainly.
-use Rattle.std.proofs.Common.{◌≡◌, ℕ, zero, suc, ◌<◌, ◌≤◌, Bool, true, false, List, [], ◌∷◌, length, Option, Some, None, refl, sym, subst}
-use Rattle.std.specs.Prelude.{not, if◌then◌else◌, option_map, option_and_then, IsTrue, ◌==◌, codes}
+use Rattle.std.proofs.Common.{ℕ, ◌<◌, Bool, true, false, List, [], ◌∷◌, length, Option, Some, None, sym, subst}
+use Rattle.std.specs.Prelude.{not, option_map, option_and_then, IsTrue, ◌==◌, codes}
 use Rattle.cil_model.specs.declared.ty.Ty.{Ty}
 use Rattle.cil_model.specs.declared.value.Value.{Value, out-Value}
 use Rattle.cil_model.specs.declared.contract.Contracts.{Contracts}
@@ -12,7 +12,6 @@ use Rattle.cil_semantics.specs.Lookups.{args_of}
 use Rattle.cil_semantics.specs.Acts.{flag}
 use Rattle.cil_semantics.specs.declared.state.World.{World}
 use Rattle.cil_semantics.specs.declared.state.Frame.{Frame}
-use Rattle.cil_semantics.specs.declared.state.Continuation.{Continuation}
 use Rattle.cil_semantics.specs.declared.state.Continuation.TheVariants.{Push, TryNext}
 use Rattle.cil_semantics.specs.declared.state.Remaining.{Remaining}
 use Rattle.cil_semantics.specs.declared.state.Remaining.TheVariants.{Range, Elements}
@@ -27,7 +26,7 @@ use Rattle.splice_facts.specs.WellFormed.{Bounds, NoneVoid, WellFormedValue, Wel
 use Rattle.splice_facts.specs.Input.{result_count}
 use Rattle.splice_facts.specs.Related.{Rewritten, HasHeight, bounds}
 use Rattle.splice_facts.specs.Related as Pairs
-use Rattle.simulation_valid.specs.Keeping.{StaysValid, ValidTail}
+use Rattle.simulation_valid.specs.Keeping.{StaysValid}
 use Rattle.simulation_valid.specs.Steps.{NextHeight, MayPush, MayReturn, MayCall}
 use Rattle.simulation_valid.proofs.WorldLaws.{object_added}
 use Rattle.simulation_valid.proofs.UnwindValidLaws.{unwinds}

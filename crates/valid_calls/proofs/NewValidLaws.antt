@@ -1,5 +1,5 @@
 -- newobj: what is made is well formed, and a constructor's frame goes on over frames that wait for it.
-use Rattle.std.proofs.Common.{◌≡◌, ℕ, zero, suc, ◌+◌, ◌<◌, ◌≤◌, Bool, true, false, List, [], ◌∷◌, length, Option, Some, None, refl, sym, ap, ◌∙◌, subst}
+use Rattle.std.proofs.Common.{◌≡◌, ℕ, suc, ◌<◌, ◌≤◌, Bool, true, false, List, [], ◌∷◌, length, Option, Some, None, refl, sym, ◌∙◌, subst}
 use Rattle.std.specs.Prelude.{is_some, if◌then◌else◌, map, IsTrue, codes}
 use Rattle.cil_model.specs.declared.ty.Ty.{Ty, out-Ty}
 use Rattle.cil_model.specs.declared.value.Value.{Value, Obj, Text}
@@ -16,12 +16,11 @@ use Rattle.cil_semantics.specs.declared.state.Cell.{Cell}
 use Rattle.cil_semantics.specs.declared.state.Object.{Object}
 use Rattle.cil_semantics.specs.declared.state.World.{World}
 use Rattle.cil_semantics.specs.declared.state.Frame.{Frame}
-use Rattle.cil_semantics.specs.declared.state.Continuation.{Continuation}
 use Rattle.cil_semantics.specs.declared.state.Continuation.TheVariants.{Push, PushObject, PushStruct}
 use Rattle.cil_semantics.specs.State.{Next, next_object, with_object}
 use Rattle.cil_semantics.specs.Frames.{stuck, stored_args, enter, enter_struct}
 use Rattle.cil_semantics.specs.Returns.{push_below}
-use Rattle.cil_semantics.specs.Outside.{by_ref_args, stored_back, Answer, Returned, Threw, Unfit, next_reply, Member, member_of, recorded, unfit, thrown_out, is_outside, Made, MadeValue, MadeObject, is_string, made, with_made, new_result, making, ask_new}
+use Rattle.cil_semantics.specs.Outside.{by_ref_args, stored_back, Answer, Returned, Threw, Unfit, next_reply, Member, member_of, recorded, thrown_out, is_outside, Made, MadeValue, MadeObject, is_string, made, with_made, new_result, making, ask_new}
 use Rattle.cil_semantics.specs.Calls.{CoreMember, Constructor, core_of, makes_delegate, delegate_cells, new_object, pushes_new, use_answer, make_core, make_own, make_outside, without_this, make}
 use Rattle.cil_semantics.specs.Checks.{AddedNumbers}
 use Rattle.machine_laws.specs.Answers.{is_below}
@@ -32,9 +31,9 @@ use Rattle.splice_facts.specs.Related as Pairs
 use Rattle.simulation_steps.specs.Outside.{WellFormedRefs, values_of}
 use Rattle.simulation_objects.proofs.RefLaws.{refs_there}
 use Rattle.simulation_objects.proofs.StoredLaws.{default_fine, defaults_fine}
-use Rattle.simulation_valid.specs.Keeping.{StructThere, StaysValid, ValidTail}
+use Rattle.simulation_valid.specs.Keeping.{StaysValid}
 use Rattle.simulation_valid.specs.Changes.{Written}
-use Rattle.simulation_valid.specs.Steps.{NextHeight, MayPush, MayEnter, AfterCall}
+use Rattle.simulation_valid.specs.Steps.{MayEnter, AfterCall}
 use Rattle.simulation_valid.proofs.WorldLaws.{object_added}
 use Rattle.simulation_valid.proofs.ChangeLaws.{valid_changed, returns_changed, tails_changed, next_changed, placed_changed, same_count}
 use Rattle.simulation_valid.proofs.UnwindValidLaws.{unwinds}
