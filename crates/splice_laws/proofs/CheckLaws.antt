@@ -1,5 +1,5 @@
--- The end of a Requires clause as instructions: it stores, tests and reports as the facts say.
-use Rattle.std.proofs.Common.{◌≡◌, ℕ, ◌+◌, ◌≤◌, Bool, true, false, List, [], ◌∷◌, length, Option, Some, None, refl, sym, ap, ◌∙◌, subst, arith}
+-- A check as instructions: it stores, tests and reports as the facts say, whichever handlers run.
+use Rattle.std.proofs.Common.{◌≡◌, ℕ, ◌+◌, ◌<◌, ◌≤◌, Bool, true, false, List, [], ◌∷◌, length, Option, Some, None, refl, sym, ap, ◌∙◌, subst, arith}
 use Rattle.std.specs.Prelude.{slice_get, slice_set, option_map, option_and_then, IsTrue, pos}
 use Rattle.cil_base.specs.declared.token.Token.{Token}
 use Rattle.cil_model.specs.declared.ty.Ty.{Ty, Known}
@@ -10,12 +10,11 @@ use Rattle.cil_model.specs.declared.value.Value.TheOpen.{Value-F}
 use Rattle.cil_model.specs.declared.body.Instr.{Instr}
 use Rattle.cil_model.specs.declared.contract.Contracts.{Contracts}
 use Rattle.cil_model.specs.declared.contract.ClauseKind.{ClauseKind}
-use Rattle.cil_model.specs.declared.contract.Group.{Group}
 use Rattle.cil_model.specs.declared.program.Program.{Program}
 use Rattle.cil_model.specs.declared.program.Meaning.TheVariants.{OfText}
 use Rattle.cil_model.specs.Texts.{text_units}
 use Rattle.cil_model.specs.NoContracts.{no_contracts}
-use Rattle.cil_semantics.specs.Core.{string_ty}
+use Rattle.cil_semantics.specs.Core.{Name, string_ty}
 use Rattle.cil_semantics.specs.declared.state.Cell.{Cell}
 use Rattle.il_opcodes.specs.declared.class.Storage.{Storage}
 use Rattle.il_opcodes.specs.declared.class.Bits.TheVariants.{B8}
@@ -24,17 +23,15 @@ use Rattle.cil_semantics.specs.Places.{storage, prim_storage, stored, truncated_
 use Rattle.cil_semantics.specs.declared.state.Local.{Local as LocalState}
 use Rattle.cil_semantics.specs.declared.state.World.{World}
 use Rattle.cil_semantics.specs.declared.state.Statics.{Statics}
-use Rattle.cil_semantics.specs.declared.state.ProgramPoint.TheVariants.{InGroup}
+use Rattle.cil_semantics.specs.declared.state.ProgramPoint.TheVariants.{Rest}
+use Rattle.cil_semantics.specs.declared.state.Handling.{Handling}
 use Rattle.cil_semantics.specs.declared.state.Frame.{Frame}
 use Rattle.cil_semantics.specs.State.{Next, with_stack}
 use Rattle.cil_semantics.specs.declared.state.Continuation.{Continuation}
 use Rattle.cil_semantics.specs.Tokens.{Here, meaning_of, meaning_here, token_here, if_little, meaning_under}
-use Rattle.cil_semantics.specs.Contracted.{Piece, Plan}
 use Rattle.cil_semantics.specs.Acts.{truth}
-use Rattle.cil_semantics.specs.Unwind.{body_of, here_of, piece_at, unwind}
+use Rattle.cil_semantics.specs.Unwind.{body_of, here_of, goes_at, unwind}
 use Rattle.cil_semantics.specs.Frames.{stuck}
-use Rattle.cil_semantics.specs.ContractCalls.{contract_call, has_message}
-use Rattle.cil_semantics.specs.declared.contract_call.ContractCall.TheVariants.{EndsClause}
 use Rattle.cil_semantics.specs.Checks.{AddedNumbers, kind_number, Failure, Condition, condition_in, condition_from, bool_in, label_text, number_value}
 use Rattle.machine_laws.specs.Same.{most_clauses}
 use Rattle.splice_facts.specs.Comes.{Comes}
@@ -42,14 +39,14 @@ use Rattle.splice_facts.specs.Grown.{grow, beside}
 use Rattle.splice_facts.specs.Layout.{Depths, Marks, Keeps}
 use Rattle.cil_semantics.specs.Checks.{Sequel, failing}
 use Rattle.splice_facts.specs.Spliced.{checking}
-use Rattle.splice_facts.specs.Spliced.{Paired, twin, Checked, clause_failure, from_here, failure_cost}
-use Rattle.splice_laws.specs.Straight.{ldc, ldloc, stloc, ldnull, ldstr, brtrue, call, frame_at, at_place, StandAt, Does}
+use Rattle.splice_facts.specs.Spliced.{Paired, twin, Checked, from_here, failure_cost}
+use Rattle.splice_laws.specs.Straight.{ldc, ldloc, stloc, ldnull, ldstr, brtrue, call, frame_at, at_place, StandAt, Stay, Does}
 use Rattle.splice_laws.specs.HelperRuns.{HelpersRun}
-use Rattle.splice_laws.specs.EntryCode.{GroupCode, reports, check_code, bool_ty}
-use Rattle.splice_laws.specs.Fails.{NotMade, FitsFail, FailRuns, fail_cost}
+use Rattle.splice_laws.specs.EntryCode.{Reporting, reports, check_code, bool_ty}
+use Rattle.splice_laws.specs.Fails.{NotMade, FitsFail, fail_cost}
 use Rattle.splice_facts.proofs.ComesLaws.{comes_at_once, comes_on, comes_within}
 use Rattle.splice_facts.proofs.StoreLaws.{IsPlain, stored_plain}
-use Rattle.splice_laws.proofs.StraightLaws.{one_step, goes_one, jumps_one, does_ldc, does_ldnull, does_ldloc, does_stloc, does_ldstr, tests_brtrue}
+use Rattle.splice_laws.proofs.StraightLaws.{one_step, goes_one, jumps_behind, does_ldc, does_ldnull, does_ldloc, does_stloc, does_ldstr, tests_brtrue}
 use Rattle.splice_laws.proofs.SeamLocalLaws.{extra_at, extra_set, get_set_same, get_set_other, CellOf, cell_of, keeps_set}
 
 -- ---- what a condition and a message are
@@ -59,7 +56,7 @@ unfolding values.out-Value denote.Hole.Carrier.out
 cut_truth_at (Value-F.I4 z) x e = let s : I4 (Rattle.cil_semantics.specs.Numbers.truncated_small B8 false z) ≡ x = cc e in subst (λ y. truth y ≡ Some (bool_in (out-Value y))) s refl
 cut_truth_at _ x e = absurd (cc e)
 
-cut_truth : (v x : Value) → stored (Truncated B8 false) v ≡ Some x → truth x ≡ Some (bool_in (out-Value x))
+pub cut_truth : (v x : Value) → stored (Truncated B8 false) v ≡ Some x → truth x ≡ Some (bool_in (out-Value x))
 cut_truth v x e = cut_truth_at (out-Value v) x e
 
 same_reference : (o : Value-F Value) (v x : Value) → if_reference o v ≡ Some x → v ≡ x
@@ -71,7 +68,7 @@ same_reference _ v x e = absurd (cc e)
 pub stored_twice : (v x : Value) → stored Reference v ≡ Some x → stored Reference x ≡ Some x
 stored_twice v x e = subst (λ y. stored Reference y ≡ Some x) (same_reference (out-Value v) v x e) e
 
-null_stored : stored Reference Null ≡ Some Null
+pub null_stored : stored Reference Null ≡ Some Null
 unfolding values.out-Value denote.Hole.Carrier.out
 null_stored = refl
 
@@ -91,11 +88,11 @@ module _ (p' : Program) where
   sets t h c v x e eh plain s =
       ap (λ u. option_map (λ w. typed_cell u w) (stored_in p' u v)) e ∙ ap (option_map (λ w. typed_cell t w)) (stored_plain p' t h v eh plain ∙ s)
 
-  text_here : (here : Here) (a : ℕ) (t : Token) (units : List ℕ) → meaning_of p' a t ≡ Some (OfText units) → meaning_here p' here (ldstr a t) ≡ Some (OfText units)
+  pub text_here : (here : Here) (a : ℕ) (t : Token) (units : List ℕ) → meaning_of p' a t ≡ Some (OfText units) → meaning_here p' here (ldstr a t) ≡ Some (OfText units)
   unfolding token_here
   text_here here a t units e = ap (option_and_then (λ x. if_little (meaning_under here.type_args here.method_args x))) e
 
-module _ (p : Program) (k : Contracts) (p' : Program) (g : AddedNumbers) (n : ℕ) (depths : Depths n g) (r : HelpersRun p' g k.settings.throwing depths.owner k.settings.guard) (me : ℕ) (plan : Plan) (m : Marks) (gr : Group) (e : GroupCode p p' g k.settings.throwing depths.owner k.settings.guard r me plan m gr) where
+module _ (p : Program) (k : Contracts) (p' : Program) (g : AddedNumbers) (n : ℕ) (depths : Depths n g) (r : HelpersRun p' g k.settings.throwing depths.owner k.settings.guard) (me : ℕ) (m : Marks) (e : Reporting p' r.assembly depths.owner r.fail me m) where
   abbrev pub base : Frame → Continuation → Frame
   base f b = twin p k p' g n depths f f.local [] 0 [] b
 
@@ -117,29 +114,29 @@ module _ (p : Program) (k : Contracts) (p' : Program) (g : AddedNumbers) (n : �
       (ap (option_and_then (set_cell p' v)) (seam_get l ex at i o.cell h1 h2 eq o.there) ∙ sets p' t h o.cell v x o.ty eh plain s) w
       ∙ ap (λ ls. Rattle.cil_semantics.specs.Acts.GoOn [] (record (grow ex l) { locals = ls; stack = rest })) (ap (λ j. slice_set (grow ex l).locals j (typed_cell p' t x)) eq ∙ extra_set m.old_locals m.olds l.locals l.captured ex i (typed_cell p' t x) h1 h2)
 
-  module _ (runs : FailRuns p' g k.settings.throwing depths.owner r.fail (FitsFail g depths.owner)) (many : 1 ≤ most_clauses k p 0 p.methods) where
-    abbrev then_of : Frame → Continuation → LocalState → List Cell → (seam on : ℕ) → List Frame → (World → Ty → ℕ → List Value → Next) → Sequel
-    then_of f b l after seam on fs' makes =
+  module _ (many : 1 ≤ most_clauses k p 0 p.methods) where
+    abbrev then_of : Frame → Continuation → LocalState → List Cell → (seam on : ℕ) → List Handling → List Frame → (World → Ty → ℕ → List Value → Next) → Sequel
+    then_of f b l after seam on hs fs' makes =
         record {
-          passes = λ v. at_place (base f b) (grow after l) on [] fs' v;
-          throws = λ v y. unwind p' no_contracts false (frame_at (base f b) (grow after l) seam [] ∷ fs') v y;
+          passes = λ v. goes_at p' (base f b) (Rest on) (grow after l) hs fs' v;
+          throws = λ v y. unwind p' no_contracts false (frame_at (base f b) (grow after l) seam hs ∷ fs') v y;
           makes = makes;
           stops = λ v. stuck v;
         }
 
     -- what stands behind the message: condition, test, report
-    reported : (f : Frame) (fs' : List Frame) (w : World) (b : Continuation) (ex : List Cell) (S : ℕ) (user : Instr) (uv : Value) (label : Token) (on : ℕ) (v x : Value) (rest : List Value) (X : Failure) (makes : World → Ty → ℕ → List Value → Next)
+    reported : (f : Frame) (hs : List Handling) (fs' : List Frame) (w : World) (b : Continuation) (ex : List Cell) (S : ℕ) (user : Instr) (uv : Value) (label : Token) (on : ℕ) (v x : Value) (rest : List Value) (X : Failure) (makes : World → Ty → ℕ → List Value → Next)
         → f.method ≡ me → length f.local.locals ≡ m.old_locals → length f.local.captured ≡ m.olds → CellOf ex e.condition_at bool_ty
-        → StandAt (body_of p' me).instrs S (reports r.assembly e.tools (kind_number X.kind) user label on) → S + 7 ≡ on → stored (Truncated B8 false) v ≡ Some x
+        → StandAt (body_of p' me).instrs S (reports r.assembly e.tools (kind_number X.kind) user label on) → S + 7 ≡ on → ((at : ℕ) → S < at → at < on → Stay p' (base f b) at hs) → stored (Truncated B8 false) v ≡ Some x
         → ((here : Here) (s : List Value) → Does p' here user (with_stack (grow (slice_set ex e.condition_at (typed_cell p' bool_ty x)) f.local) s) (with_stack (grow (slice_set ex e.condition_at (typed_cell p' bool_ty x)) f.local) (uv ∷ s)))
         → meaning_of p' r.assembly label ≡ Some (OfText (text_units X.label)) → NotMade X.kind → X.user ≡ uv → stored Reference uv ≡ Some uv → FitsFail g depths.owner w
-        → Comes p' (4 + (2 + fail_cost)) (at_place (base f b) (with_stack (grow ex f.local) (v ∷ rest)) S [] fs' w)
-        (checking p' g k.settings.throwing X (then_of f b (with_stack f.local rest) (slice_set ex e.condition_at (typed_cell p' bool_ty x)) (S + 6) on fs' makes) (bool_in (out-Value x)) fs' w)
-    reported f fs' w b ex S user uv label on v x rest X makes a h1 h2 o stand len s does lab kd us ref fit =
-        one_step p' F (with_stack (grow ex f.local) (v ∷ rest)) S [] fs' w (3 + (2 + fail_cost)) _ _
-        (goes_one p' F (with_stack (grow ex f.local) (v ∷ rest)) (with_stack L rest) S [] fs' w (stloc e.tools.condition) (at_me F S _ a stand.0) (seam_store here f.local ex e.tools.condition e.condition_at bool_ty (Truncated B8 false) v x rest h1 h2 e.condition_is o (bool_holds p') tt s) refl)
-        (one_step p' F (with_stack L rest) (S + 1) [] fs' w (2 + (2 + fail_cost)) _ _
-        (goes_one p' F (with_stack L rest) (with_stack L (x ∷ rest)) (S + 1) [] fs' w (ldloc e.tools.condition) (at_me F (S + 1) _ a (stand.1).0) (does_ldloc p' here e.tools.condition (typed_cell p' bool_ty x) (with_stack L rest) (seam_get f.local ex2 e.tools.condition e.condition_at (typed_cell p' bool_ty x) h1 h2 e.condition_is (get_set_same ex e.condition_at o.cell (typed_cell p' bool_ty x) o.there))) refl)
+        → Comes p' (4 + (2 + fail_cost)) (at_place (base f b) (with_stack (grow ex f.local) (v ∷ rest)) S hs fs' w)
+        (checking p' g k.settings.throwing X (then_of f b (with_stack f.local rest) (slice_set ex e.condition_at (typed_cell p' bool_ty x)) (S + 6) on hs fs' makes) (bool_in (out-Value x)) fs' w)
+    reported f hs fs' w b ex S user uv label on v x rest X makes a h1 h2 o stand len st s does lab kd us ref fit =
+        one_step p' F (with_stack (grow ex f.local) (v ∷ rest)) S hs fs' w (3 + (2 + fail_cost)) _ _
+        (goes_one p' F (with_stack (grow ex f.local) (v ∷ rest)) (with_stack L rest) S hs fs' w (stloc e.tools.condition) (at_me F S _ a stand.0) (seam_store here f.local ex e.tools.condition e.condition_at bool_ty (Truncated B8 false) v x rest h1 h2 e.condition_is o (bool_holds p') tt s) (st (S + 1) (omega arith) (omega (arith, len))))
+        (one_step p' F (with_stack L rest) (S + 1) hs fs' w (2 + (2 + fail_cost)) _ _
+        (goes_one p' F (with_stack L rest) (with_stack L (x ∷ rest)) (S + 1) hs fs' w (ldloc e.tools.condition) (at_me F (S + 1) _ a (stand.1).0) (does_ldloc p' here e.tools.condition (typed_cell p' bool_ty x) (with_stack L rest) (seam_get f.local ex2 e.tools.condition e.condition_at (typed_cell p' bool_ty x) h1 h2 e.condition_is (get_set_same ex e.condition_at o.cell (typed_cell p' bool_ty x) o.there))) (st (S + 1 + 1) (omega arith) (omega (arith, len))))
         (by_test (bool_in (out-Value x)) (cut_truth v x s)))
       where
         F : Frame
@@ -155,7 +152,7 @@ module _ (p : Program) (k : Contracts) (p' : Program) (g : AddedNumbers) (n : �
         L = grow ex2 f.local
 
         T : Sequel
-        T = then_of f b (with_stack f.local rest) ex2 (S + 6) on fs' makes
+        T = then_of f b (with_stack f.local rest) ex2 (S + 6) on hs fs' makes
 
         six : S + 1 + 1 + 1 + 1 + 1 + 1 ≡ S + 6
         six = omega arith
@@ -169,138 +166,134 @@ module _ (p : Program) (k : Contracts) (p' : Program) (g : AddedNumbers) (n : �
         call_there : slice_get (body_of p' me).instrs (S + 6) ≡ Some (call r.assembly e.tools.fail)
         call_there = ap (slice_get (body_of p' me).instrs) (sym six) ∙ ((((((stand.1).1).1).1).1).1).0
 
-        fails : Comes p' fail_cost (at_place F (with_stack L (label_text X ∷ X.user ∷ number_value X ∷ rest)) (S + 6) [] fs' w) (failing p' g k.settings.throwing X T fs' w)
+        fails : Comes p' fail_cost (at_place F (with_stack L (label_text X ∷ X.user ∷ number_value X ∷ rest)) (S + 6) hs fs' w) (failing p' g k.settings.throwing X T fs' w)
         fails =
-            subst (λ q. Comes p' fail_cost (at_place F (with_stack L (label_text X ∷ X.user ∷ number_value X ∷ rest)) (S + 6) [] fs' w) (failing p' g k.settings.throwing X (then_of f b (with_stack f.local rest) ex2 (S + 6) q fs' makes) fs' w)) seven
-            (runs F L rest (S + 6) fs' w r.assembly e.tools.fail X makes (at_me F (S + 6) _ a call_there) e.fail_token kd (subst (λ y. stored Reference y ≡ Some y) (sym us) ref) fit)
+            subst (λ q. Comes p' fail_cost (at_place F (with_stack L (label_text X ∷ X.user ∷ number_value X ∷ rest)) (S + 6) hs fs' w) (failing p' g k.settings.throwing X (then_of f b (with_stack f.local rest) ex2 (S + 6) q hs fs' makes) fs' w)) seven
+            (r.fails F L rest (S + 6) hs fs' w r.assembly e.tools.fail X makes (at_me F (S + 6) _ a call_there) e.fail_token kd (subst (λ y. stored Reference y ≡ Some y) (sym us) ref) fit)
 
         -- the stack as `fail` takes it
         as_told : with_stack L (label_text X ∷ uv ∷ number_value X ∷ rest) ≡ with_stack L (label_text X ∷ X.user ∷ number_value X ∷ rest)
         as_told = ap (λ y. with_stack L (label_text X ∷ y ∷ number_value X ∷ rest)) (sym us)
 
-        by_test : (t : Bool) → truth x ≡ Some t → Comes p' (2 + (2 + fail_cost)) (at_place F (with_stack L (x ∷ rest)) (S + 1 + 1) [] fs' w) (checking p' g k.settings.throwing X T t fs' w)
+        by_test : (t : Bool) → truth x ≡ Some t → Comes p' (2 + (2 + fail_cost)) (at_place F (with_stack L (x ∷ rest)) (S + 1 + 1) hs fs' w) (checking p' g k.settings.throwing X T t fs' w)
         by_test true q =
             comes_within p' 1 (2 + (2 + fail_cost)) _ _ (omega arith)
-            (one_step p' F (with_stack L (x ∷ rest)) (S + 1 + 1) [] fs' w 0 _ _
-            (jumps_one p' F (with_stack L (x ∷ rest)) (with_stack L rest) (S + 1 + 1) on [] fs' w (brtrue on) (at_me F (S + 1 + 1) _ a ((stand.1).1).0) (tests_brtrue p' here on x rest L true q) refl)
+            (one_step p' F (with_stack L (x ∷ rest)) (S + 1 + 1) hs fs' w 0 _ _
+            (jumps_behind p' F (with_stack L (x ∷ rest)) (with_stack L rest) (S + 1 + 1) on hs fs' w (brtrue on) (at_me F (S + 1 + 1) _ a ((stand.1).1).0) (tests_brtrue p' here on x rest L true q))
             (comes_at_once p' 0 _ _ refl))
         by_test false q =
-            one_step p' F (with_stack L (x ∷ rest)) (S + 1 + 1) [] fs' w (1 + (2 + fail_cost)) _ _
-            (goes_one p' F (with_stack L (x ∷ rest)) (with_stack L rest) (S + 1 + 1) [] fs' w (brtrue on) (at_me F (S + 1 + 1) _ a ((stand.1).1).0) (tests_brtrue p' here on x rest L false q) refl)
-            (one_step p' F (with_stack L rest) (S + 1 + 1 + 1) [] fs' w (2 + fail_cost) _ _
-            (goes_one p' F (with_stack L rest) (with_stack L (number_value X ∷ rest)) (S + 1 + 1 + 1) [] fs' w (ldc (pos (kind_number X.kind))) (at_me F (S + 1 + 1 + 1) _ a (((stand.1).1).1).0) (does_ldc p' here (pos (kind_number X.kind)) (with_stack L rest)) refl)
-            (one_step p' F (with_stack L (number_value X ∷ rest)) (S + 1 + 1 + 1 + 1) [] fs' w (1 + fail_cost) _ _
-            (goes_one p' F (with_stack L (number_value X ∷ rest)) (with_stack L (uv ∷ number_value X ∷ rest)) (S + 1 + 1 + 1 + 1) [] fs' w user (at_me F (S + 1 + 1 + 1 + 1) _ a ((((stand.1).1).1).1).0) (does here (number_value X ∷ rest)) refl)
-            (one_step p' F (with_stack L (uv ∷ number_value X ∷ rest)) (S + 1 + 1 + 1 + 1 + 1) [] fs' w fail_cost _ _
-            (goes_one p' F (with_stack L (uv ∷ number_value X ∷ rest)) (with_stack L (label_text X ∷ uv ∷ number_value X ∷ rest)) (S + 1 + 1 + 1 + 1 + 1) [] fs' w (ldstr r.assembly label) (at_me F (S + 1 + 1 + 1 + 1 + 1) _ a (((((stand.1).1).1).1).1).0) (does_ldstr p' here r.assembly label (text_units X.label) (with_stack L (uv ∷ number_value X ∷ rest)) (text_here p' here r.assembly label (text_units X.label) lab)) refl)
-            (subst (λ z. Comes p' fail_cost z (failing p' g k.settings.throwing X T fs' w)) (ap (λ z. at_place F z (S + 6) [] fs' w) (sym as_told) ∙ ap (λ z. at_place F (with_stack L (label_text X ∷ uv ∷ number_value X ∷ rest)) z [] fs' w) (sym six)) fails))))
+            one_step p' F (with_stack L (x ∷ rest)) (S + 1 + 1) hs fs' w (1 + (2 + fail_cost)) _ _
+            (goes_one p' F (with_stack L (x ∷ rest)) (with_stack L rest) (S + 1 + 1) hs fs' w (brtrue on) (at_me F (S + 1 + 1) _ a ((stand.1).1).0) (tests_brtrue p' here on x rest L false q) (st (S + 1 + 1 + 1) (omega arith) (omega (arith, len))))
+            (one_step p' F (with_stack L rest) (S + 1 + 1 + 1) hs fs' w (2 + fail_cost) _ _
+            (goes_one p' F (with_stack L rest) (with_stack L (number_value X ∷ rest)) (S + 1 + 1 + 1) hs fs' w (ldc (pos (kind_number X.kind))) (at_me F (S + 1 + 1 + 1) _ a (((stand.1).1).1).0) (does_ldc p' here (pos (kind_number X.kind)) (with_stack L rest)) (st (S + 1 + 1 + 1 + 1) (omega arith) (omega (arith, len))))
+            (one_step p' F (with_stack L (number_value X ∷ rest)) (S + 1 + 1 + 1 + 1) hs fs' w (1 + fail_cost) _ _
+            (goes_one p' F (with_stack L (number_value X ∷ rest)) (with_stack L (uv ∷ number_value X ∷ rest)) (S + 1 + 1 + 1 + 1) hs fs' w user (at_me F (S + 1 + 1 + 1 + 1) _ a ((((stand.1).1).1).1).0) (does here (number_value X ∷ rest)) (st (S + 1 + 1 + 1 + 1 + 1) (omega arith) (omega (arith, len))))
+            (one_step p' F (with_stack L (uv ∷ number_value X ∷ rest)) (S + 1 + 1 + 1 + 1 + 1) hs fs' w fail_cost _ _
+            (goes_one p' F (with_stack L (uv ∷ number_value X ∷ rest)) (with_stack L (label_text X ∷ uv ∷ number_value X ∷ rest)) (S + 1 + 1 + 1 + 1 + 1) hs fs' w (ldstr r.assembly label) (at_me F (S + 1 + 1 + 1 + 1 + 1) _ a (((((stand.1).1).1).1).1).0) (does_ldstr p' here r.assembly label (text_units X.label) (with_stack L (uv ∷ number_value X ∷ rest)) (text_here p' here r.assembly label (text_units X.label) lab)) (st (S + 1 + 1 + 1 + 1 + 1 + 1) (omega arith) (omega (arith, len))))
+            (subst (λ z. Comes p' fail_cost z (failing p' g k.settings.throwing X T fs' w)) (ap (λ z. at_place F z (S + 6) hs fs' w) (sym as_told) ∙ ap (λ z. at_place F (with_stack L (label_text X ∷ uv ∷ number_value X ∷ rest)) z hs fs' w) (sym six)) fails))))
 
-    -- checks
-    pub checks_group : (j q : ℕ) (x : Piece) (i : Instr) (kd : ClauseKind) (c : Condition) (f : Frame) (fs fs' : List Frame) (w : World) (ex : List Cell) (ss : List Statics) (b : Continuation) → f.method ≡ me → f.at ≡ InGroup gr j q → piece_at (Some plan) gr j ≡ Some x → slice_get x.clause.instrs q ≡ Some i → contract_call p i ≡ EndsClause kd → Sc f fs fs' w ex ss
-        → condition_in (has_message p i) f.local.stack ≡ Some c → Checked p k p' g n depths m f fs fs' w ex ss b [] (clause_failure p k p' g n depths f fs x c.user) c.holds c.rest (m.behind gr j)
-    checks_group j q x i kd c f fs fs' w ex ss b a at there instr ends s given = by_message (has_message p i) (e.checks j q x i kd there instr ends) given
-      where
-        S : ℕ
-        S = m.places (InGroup gr j q)
+    -- a check at a place, whichever handlers run there
+    module _ (f : Frame) (fs fs' : List Frame) (w : World) (ex : List Cell) (ss : List Statics) (b : Continuation) (hs : List Handling) (a : f.method ≡ me) (s : Sc f fs fs' w ex ss) (kd : ClauseKind) (exception : Option Ty) (home : ℕ) (name : Name) (kept : NotMade kd)
+        (B : ℕ) (stays : (at : ℕ) → m.places f.at < at → at < B → Stay p' (base f b) at hs) (belongs : (at : ℕ) → m.places f.at ≤ at → at < B → IsTrue (m.belongs f.at at)) (label : Token) (labelled : meaning_of p' r.assembly label ≡ Some (OfText (text_units name))) where
+      abbrev S : ℕ
+      S = m.places f.at
 
-        B : ℕ
-        B = m.behind gr j
+      abbrev WW : World
+      WW = beside ss w
 
-        WW : World
-        WW = beside ss w
+      fit : FitsFail g depths.owner WW
+      fit = record { depth = w.depth; held = (s.beside).depth; bare = (s.beside).bare }
 
-        fit : FitsFail g depths.owner WW
-        fit = record { depth = w.depth; held = (s.beside).depth; bare = (s.beside).bare }
+      abbrev from : Next
+      from = from_here p k p' g n depths m f ex b fs' w ss hs
 
-        from : Next
-        from = from_here p k p' g n depths m f ex b fs' w ss []
+      from_stack : (st : List Value) → f.local.stack ≡ st → at_place (base f b) (with_stack (grow ex f.local) st) S hs fs' WW ≡ from
+      from_stack st es = ap (λ z. at_place (base f b) (with_stack (grow ex f.local) z) S hs fs' WW) (sym es)
 
-        from_stack : (st : List Value) → f.local.stack ≡ st → at_place (base f b) (with_stack (grow ex f.local) st) S [] fs' WW ≡ from
-        from_stack st es = ap (λ z. at_place (base f b) (with_stack (grow ex f.local) z) S [] fs' WW) (sym es) ∙ ap (λ z. at_place (base f b) (grow ex f.local) (m.places z) [] fs' WW) (sym at)
+      abbrev X : Value → Failure
+      X u = record { kind = kd; exception = exception; home = home; user = u; label = name }
 
-        X : Value → Failure
-        X u = clause_failure p k p' g n depths f fs x u
+      abbrev makes : List Value → List Cell → ℕ → World → Ty → ℕ → List Value → Next
+      makes rest after seam v ty cn vs = Rattle.cil_semantics.specs.Calls.make p' no_contracts (Rattle.cil_semantics.specs.Calls.pushes_new p' no_contracts) ty cn vs (twin p k p' g n depths f (with_stack f.local rest) after seam hs b ∷ fs') v
 
-        makes : List Value → List Cell → ℕ → World → Ty → ℕ → List Value → Next
-        makes rest after seam v ty cn vs = Rattle.cil_semantics.specs.Calls.make p' no_contracts (Rattle.cil_semantics.specs.Calls.pushes_new p' no_contracts) ty cn vs (twin p k p' g n depths f (with_stack f.local rest) after seam [] b ∷ fs') v
+      abbrev Check : Condition → Type 0
+      Check z = Checked p k p' g n depths m f fs fs' w ex ss b hs (X z.user) z.holds z.rest B
 
-        Check : Condition → Type 0
-        Check z = Checked p k p' g n depths m f fs fs' w ex ss b [] (X z.user) z.holds z.rest B
+      condition_cell : (ex1 : List Cell) → Keeps m (here_of f fs) f.thrown f.local ex1 → CellOf ex1 e.condition_at bool_ty
+      condition_cell ex1 kp = cell_of ex1 (m.extra (here_of f fs)) e.condition_at bool_ty kp.typed (e.condition_ty (here_of f fs) a)
 
-        condition_cell : (ex1 : List Cell) → Keeps m (here_of f fs) f.thrown f.local ex1 → CellOf ex1 e.condition_at bool_ty
-        condition_cell ex1 kp = cell_of ex1 (m.extra (here_of f fs)) e.condition_at bool_ty kp.typed (e.condition_ty (here_of f fs) a)
+      -- the condition lies on the stack, the message in a local or nowhere
+      tested : (ex1 : List Cell) (S1 : ℕ) (n0 : ℕ) (user : Instr) (uv v x0 : Value) (rest : List Value) → n0 ≤ 1 → Keeps m (here_of f fs) f.thrown f.local ex1 → stored (Truncated B8 false) v ≡ Some x0
+          → StandAt (body_of p' me).instrs S1 (reports r.assembly e.tools (kind_number kd) user label B) → S1 + 7 ≡ B → S ≤ S1
+          → ((here : Here) (st : List Value) → Does p' here user (with_stack (grow (slice_set ex1 e.condition_at (typed_cell p' bool_ty x0)) f.local) st) (with_stack (grow (slice_set ex1 e.condition_at (typed_cell p' bool_ty x0)) f.local) (uv ∷ st)))
+          → stored Reference uv ≡ Some uv → Comes p' n0 from (at_place (base f b) (with_stack (grow ex1 f.local) (v ∷ rest)) S1 hs fs' WW)
+          → Check (record { holds = bool_in (out-Value x0); user = uv; rest = rest })
+      tested ex1 S1 n0 user uv v x0 rest le kp sx stand len after does ref come =
+          let ex2 = slice_set ex1 e.condition_at (typed_cell p' bool_ty x0) in
+          let k2 = keeps_set m (here_of f fs) f.thrown f.local ex1 e.condition_at (typed_cell p' bool_ty x0) kp (e.condition_ty (here_of f fs) a) (e.apart_too.0).0 (e.apart_too.0).1 in
+          record {
+            after = ex2;
+            keeps = k2;
+            seam = S1 + 6;
+            belongs = belongs (S1 + 6) (omega (arith, after)) (omega (arith, len));
+            made = λ k1 y. absurd (subst NotMade k1 kept);
+            comes = comes_within p' (n0 + (4 + (2 + fail_cost))) (failure_cost k p) _ _ (omega (arith, many, le))
+                (comes_on p' n0 (4 + (2 + fail_cost)) _ _ _ come
+                (reported f hs fs' WW b ex1 S1 user uv label B v x0 rest (X uv) (makes rest ex2 (S1 + 6)) a kp.wide kp.caps (condition_cell ex1 kp) stand len (λ at lo hi. stays at (omega (arith, after, lo)) hi) sx does labelled kept refl ref fit));
+          }
 
-        -- the condition lies on the stack, the message in a local or nowhere
-        tested : (ex1 : List Cell) (S1 : ℕ) (n0 : ℕ) (user : Instr) (uv v x0 : Value) (rest : List Value) → n0 ≤ 1 → Keeps m (here_of f fs) f.thrown f.local ex1 → stored (Truncated B8 false) v ≡ Some x0
-            → StandAt (body_of p' me).instrs S1 (reports r.assembly e.tools (kind_number x.clause.kind) user (e.label x) B) → S1 + 7 ≡ B → S ≤ S1
-            → ((here : Here) (st : List Value) → Does p' here user (with_stack (grow (slice_set ex1 e.condition_at (typed_cell p' bool_ty x0)) f.local) st) (with_stack (grow (slice_set ex1 e.condition_at (typed_cell p' bool_ty x0)) f.local) (uv ∷ st)))
-            → stored Reference uv ≡ Some uv → Comes p' n0 from (at_place (base f b) (with_stack (grow ex1 f.local) (v ∷ rest)) S1 [] fs' WW)
-            → Check (record { holds = bool_in (out-Value x0); user = uv; rest = rest })
-        tested ex1 S1 n0 user uv v x0 rest le kp sx stand len after does ref come =
-            let ex2 = slice_set ex1 e.condition_at (typed_cell p' bool_ty x0) in
-            let k2 = keeps_set m (here_of f fs) f.thrown f.local ex1 e.condition_at (typed_cell p' bool_ty x0) kp (e.condition_ty (here_of f fs) a) (e.apart_too.0).0 (e.apart_too.0).1 in
-            record {
-              after = ex2;
-              keeps = k2;
-              seam = S1 + 6;
-              belongs = subst (λ z. IsTrue (m.belongs z (S1 + 6))) (sym at) (e.seam_belongs j q x i kd there instr ends (S1 + 6) (omega (arith, after)) (omega (arith, len)));
-              made = λ k1 y. absurd (subst NotMade k1 (e.clauses j x there).0);
-              comes = comes_within p' (n0 + (4 + (2 + fail_cost))) (failure_cost k p) _ _ (omega (arith, many, le))
-                  (comes_on p' n0 (4 + (2 + fail_cost)) _ _ _ come
-                  (reported f fs' WW b ex1 S1 user uv (e.label x) B v x0 rest (X uv) (makes rest ex2 (S1 + 6)) a kp.wide kp.caps (condition_cell ex1 kp) stand len sx does (e.labelled j x there) ((e.clauses j x there).0) refl ref fit));
-            }
+      plain_condition : (st : List Value) → f.local.stack ≡ st → StandAt (body_of p' me).instrs S (reports r.assembly e.tools (kind_number kd) ldnull label B) → S + 7 ≡ B → (z : Condition) → condition_from Null st ≡ Some z → Check z
+      plain_condition [] es stand len z ez = absurd (cc ez)
+      plain_condition (v ∷ rest) es stand len z ez = by_stored (stored (Truncated B8 false) v) refl ez
+        where
+          by_stored : (o : Option Value) → stored (Truncated B8 false) v ≡ o → option_map (λ x1. record { holds = bool_in (out-Value x1); user = Null; rest = rest }) o ≡ Some z → Check z
+          by_stored None so q1 = absurd (cc q1)
+          by_stored (Some x0) so q1 =
+              let same : record { holds = bool_in (out-Value x0); user = Null; rest = rest } ≡ z = cc q1 in
+              subst Check same
+              (tested ex S 0 ldnull Null v x0 rest (omega arith) s.keeps so stand len (omega arith) (λ here st. does_ldnull p' here (with_stack (grow (slice_set ex e.condition_at (typed_cell p' bool_ty x0)) f.local) st)) null_stored
+              (comes_at_once p' 0 _ _ (sym (from_stack (v ∷ rest) es))))
 
-        plain_condition : (st : List Value) → f.local.stack ≡ st → StandAt (body_of p' me).instrs S (reports r.assembly e.tools (kind_number x.clause.kind) ldnull (e.label x) B) → S + 7 ≡ B → (z : Condition) → condition_from Null st ≡ Some z → Check z
-        plain_condition [] es stand len z ez = absurd (cc ez)
-        plain_condition (v ∷ rest) es stand len z ez = by_stored (stored (Truncated B8 false) v) refl ez
-          where
-            by_stored : (o : Option Value) → stored (Truncated B8 false) v ≡ o → option_map (λ x1. record { holds = bool_in (out-Value x1); user = Null; rest = rest }) o ≡ Some z → Check z
-            by_stored None so q1 = absurd (cc q1)
-            by_stored (Some x0) so q1 =
-                let same : record { holds = bool_in (out-Value x0); user = Null; rest = rest } ≡ z = cc q1 in
-                subst Check same
-                (tested ex S 0 ldnull Null v x0 rest (omega arith) s.keeps so stand len (omega arith) (λ here st. does_ldnull p' here (with_stack (grow (slice_set ex e.condition_at (typed_cell p' bool_ty x0)) f.local) st)) null_stored
-                (comes_at_once p' 0 _ _ (sym (from_stack (v ∷ rest) es))))
+      told_condition : (u : Value) (st : List Value) → f.local.stack ≡ u ∷ st → StandAt (body_of p' me).instrs S (stloc e.tools.message ∷ reports r.assembly e.tools (kind_number kd) (ldloc e.tools.message) label B) → S + 8 ≡ B → (z : Condition) → condition_in true (u ∷ st) ≡ Some z → Check z
+      told_condition u st es stand len z ez = by_user (stored Reference u) refl ez
+        where
+          by_condition : (user : Value) → stored Reference u ≡ Some user → (st2 : List Value) → st ≡ st2 → condition_from user st2 ≡ Some z → Check z
+          by_condition user su [] e2 q1 = absurd (cc q1)
+          by_condition user su (v ∷ rest) e2 q1 = by_stored (stored (Truncated B8 false) v) refl q1
+            where
+              by_stored : (o : Option Value) → stored (Truncated B8 false) v ≡ o → option_map (λ x1. record { holds = bool_in (out-Value x1); user = user; rest = rest }) o ≡ Some z → Check z
+              by_stored None so q2 = absurd (cc q2)
+              by_stored (Some x0) so q2 =
+                  let same : record { holds = bool_in (out-Value x0); user = user; rest = rest } ≡ z = cc q2 in
+                  let mc : Cell = typed_cell p' string_ty user in
+                  let ex1 = slice_set ex e.message_at mc in
+                  let mo = cell_of ex (m.extra (here_of f fs)) e.message_at string_ty (s.keeps).typed (e.message_ty (here_of f fs) a) in
+                  let k1 = keeps_set m (here_of f fs) f.thrown f.local ex e.message_at mc s.keeps (e.message_ty (here_of f fs) a) (e.apart_too.1).0 (e.apart_too.1).1 in
+                  let cell2 : Cell = typed_cell p' bool_ty x0 in
+                  let F : Frame = base f b in
+                  subst Check same
+                  (tested ex1 (S + 1) 1 (ldloc e.tools.message) user v x0 rest (omega arith) k1 so stand.1 (eight S ∙ len) (omega arith)
+                  (λ here st3. does_ldloc p' here e.tools.message mc (with_stack (grow (slice_set ex1 e.condition_at cell2) f.local) st3)
+                  (seam_get f.local (slice_set ex1 e.condition_at cell2) e.tools.message e.message_at mc (s.keeps).wide (s.keeps).caps e.message_is
+                  (get_set_other ex1 e.condition_at e.message_at cell2 (λ d. (e.apart_too.2) (sym d)) ∙ get_set_same ex e.message_at mo.cell mc mo.there)))
+                  (stored_twice u user su)
+                  (subst (λ y. Comes p' 1 y (at_place F (with_stack (grow ex1 f.local) (v ∷ rest)) (S + 1) hs fs' WW)) (from_stack (u ∷ v ∷ rest) (es ∙ ap (λ t. u ∷ t) e2))
+                  (one_step p' F (with_stack (grow ex f.local) (u ∷ v ∷ rest)) S hs fs' WW 0 _ _
+                  (goes_one p' F (with_stack (grow ex f.local) (u ∷ v ∷ rest)) (with_stack (grow ex1 f.local) (v ∷ rest)) S hs fs' WW (stloc e.tools.message) (at_me F S _ a stand.0) (seam_store (here_of F fs') f.local ex e.tools.message e.message_at string_ty Reference u user (v ∷ rest) (s.keeps).wide (s.keeps).caps e.message_is mo (string_holds p') tt su) (stays (S + 1) (omega arith) (omega (arith, len))))
+                  (comes_at_once p' 0 _ _ refl))))
+                where
+                  eight : (j1 : ℕ) → j1 + 1 + 7 ≡ j1 + 8
+                  eight j1 = omega arith
 
-        told_condition : (u : Value) (st : List Value) → f.local.stack ≡ u ∷ st → StandAt (body_of p' me).instrs S (stloc e.tools.message ∷ reports r.assembly e.tools (kind_number x.clause.kind) (ldloc e.tools.message) (e.label x) B) → S + 8 ≡ B → (z : Condition) → condition_in true (u ∷ st) ≡ Some z → Check z
-        told_condition u st es stand len z ez = by_user (stored Reference u) refl ez
-          where
-            by_condition : (user : Value) → stored Reference u ≡ Some user → (st2 : List Value) → st ≡ st2 → condition_from user st2 ≡ Some z → Check z
-            by_condition user su [] e2 q1 = absurd (cc q1)
-            by_condition user su (v ∷ rest) e2 q1 = by_stored (stored (Truncated B8 false) v) refl q1
-              where
-                by_stored : (o : Option Value) → stored (Truncated B8 false) v ≡ o → option_map (λ x1. record { holds = bool_in (out-Value x1); user = user; rest = rest }) o ≡ Some z → Check z
-                by_stored None so q2 = absurd (cc q2)
-                by_stored (Some x0) so q2 =
-                    let same : record { holds = bool_in (out-Value x0); user = user; rest = rest } ≡ z = cc q2 in
-                    let mc : Cell = typed_cell p' string_ty user in
-                    let ex1 = slice_set ex e.message_at mc in
-                    let mo = cell_of ex (m.extra (here_of f fs)) e.message_at string_ty (s.keeps).typed (e.message_ty (here_of f fs) a) in
-                    let k1 = keeps_set m (here_of f fs) f.thrown f.local ex e.message_at mc s.keeps (e.message_ty (here_of f fs) a) (e.apart_too.1).0 (e.apart_too.1).1 in
-                    let cell2 : Cell = typed_cell p' bool_ty x0 in
-                    let F : Frame = base f b in
-                    subst Check same
-                    (tested ex1 (S + 1) 1 (ldloc e.tools.message) user v x0 rest (omega arith) k1 so stand.1 (eight S ∙ len) (omega arith)
-                    (λ here st3. does_ldloc p' here e.tools.message mc (with_stack (grow (slice_set ex1 e.condition_at cell2) f.local) st3)
-                    (seam_get f.local (slice_set ex1 e.condition_at cell2) e.tools.message e.message_at mc (s.keeps).wide (s.keeps).caps e.message_is
-                    (get_set_other ex1 e.condition_at e.message_at cell2 (λ d. (e.apart_too.2) (sym d)) ∙ get_set_same ex e.message_at mo.cell mc mo.there)))
-                    (stored_twice u user su)
-                    (subst (λ y. Comes p' 1 y (at_place F (with_stack (grow ex1 f.local) (v ∷ rest)) (S + 1) [] fs' WW)) (from_stack (u ∷ v ∷ rest) (es ∙ ap (λ t. u ∷ t) e2))
-                    (one_step p' F (with_stack (grow ex f.local) (u ∷ v ∷ rest)) S [] fs' WW 0 _ _
-                    (goes_one p' F (with_stack (grow ex f.local) (u ∷ v ∷ rest)) (with_stack (grow ex1 f.local) (v ∷ rest)) S [] fs' WW (stloc e.tools.message) (at_me F S _ a stand.0) (seam_store (here_of F fs') f.local ex e.tools.message e.message_at string_ty Reference u user (v ∷ rest) (s.keeps).wide (s.keeps).caps e.message_is mo (string_holds p') tt su) refl)
-                    (comes_at_once p' 0 _ _ refl))))
-                  where
-                    eight : (j1 : ℕ) → j1 + 1 + 7 ≡ j1 + 8
-                    eight j1 = omega arith
+          by_user : (o : Option Value) → stored Reference u ≡ o → option_and_then (λ user. condition_from user st) o ≡ Some z → Check z
+          by_user None su q1 = absurd (cc q1)
+          by_user (Some user) su q1 = by_condition user su st refl q1
 
-            by_user : (o : Option Value) → stored Reference u ≡ o → option_and_then (λ user. condition_from user st) o ≡ Some z → Check z
-            by_user None su q1 = absurd (cc q1)
-            by_user (Some user) su q1 = by_condition user su st refl q1
+      by_stack : (st : List Value) → f.local.stack ≡ st → StandAt (body_of p' me).instrs S (stloc e.tools.message ∷ reports r.assembly e.tools (kind_number kd) (ldloc e.tools.message) label B) → S + 8 ≡ B → (z : Condition) → condition_in true st ≡ Some z → Check z
+      by_stack [] es stand len z ez = absurd (cc ez)
+      by_stack (u ∷ st) es stand len z ez = told_condition u st es stand len z ez
 
-        by_stack : (st : List Value) → f.local.stack ≡ st → StandAt (body_of p' me).instrs S (stloc e.tools.message ∷ reports r.assembly e.tools (kind_number x.clause.kind) (ldloc e.tools.message) (e.label x) B) → S + 8 ≡ B → (z : Condition) → condition_in true st ≡ Some z → Check z
-        by_stack [] es stand len z ez = absurd (cc ez)
-        by_stack (u ∷ st) es stand len z ez = told_condition u st es stand len z ez
-
-        by_message : (t : Bool) → StandAt (body_of p' me).instrs S (check_code t r.assembly e.tools (kind_number x.clause.kind) (e.label x) B) × (B ≡ S + length (check_code t r.assembly e.tools (kind_number x.clause.kind) (e.label x) B)) → condition_in t f.local.stack ≡ Some c → Check c
-        by_message true code q1 = by_stack f.local.stack refl code.0 (sym code.1) c q1
-        by_message false code q1 = plain_condition f.local.stack refl code.0 (sym code.1) c q1
+      -- where the condition is there
+      pub check_at : (t : Bool) (c : Condition) → StandAt (body_of p' me).instrs S (check_code t r.assembly e.tools (kind_number kd) label B) → B ≡ S + length (check_code t r.assembly e.tools (kind_number kd) label B) → condition_in t f.local.stack ≡ Some c → Check c
+      check_at true c code next given = by_stack f.local.stack refl code (sym next) c given
+      check_at false c code next given = plain_condition f.local.stack refl code (sym next) c given

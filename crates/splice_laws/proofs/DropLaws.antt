@@ -1,6 +1,6 @@
 -- Assert and Assume that aren't checked: their arguments are dropped.
-use Rattle.std.proofs.Common.{◌≡◌, ℕ, ◌+◌, ◌<◌, Bool, true, false, List, [], ◌∷◌, length, Some, refl, sym, ap, ◌∙◌, subst, arith}
-use Rattle.std.specs.Prelude.{slice_get, filter, if◌then◌else◌}
+use Rattle.std.proofs.Common.{◌≡◌, ℕ, ◌+◌, Bool, true, false, List, [], ◌∷◌, length, Some, refl, sym, ap, ◌∙◌, subst, arith}
+use Rattle.std.specs.Prelude.{slice_get, filter}
 use Rattle.cil_model.specs.declared.value.Value.{Value}
 use Rattle.cil_model.specs.declared.body.Instr.{Instr}
 use Rattle.cil_model.specs.declared.contract.Contracts.{Contracts}
@@ -19,17 +19,19 @@ use Rattle.cil_semantics.specs.Contracted.{Plan}
 use Rattle.cil_semantics.specs.Tokens.{Here}
 use Rattle.cil_semantics.specs.Acts.{Stuck, GoOn}
 use Rattle.cil_semantics.specs.Instructions.{act, act_of_class}
-use Rattle.cil_semantics.specs.Unwind.{body_of, here_of, place_in, next_place, in_handler, goes_at}
+use Rattle.cil_semantics.specs.Unwind.{body_of, here_of, next_place, in_handler, goes_at}
 use Rattle.cil_semantics.specs.Frames.{stuck, if_there}
 use Rattle.cil_semantics.specs.ContractCalls.{has_message}
 use Rattle.cil_semantics.specs.Checks.{AddedNumbers, dropped}
 use Rattle.splice_facts.specs.Comes.{Comes}
 use Rattle.splice_facts.specs.Grown.{grow, beside}
 use Rattle.splice_facts.specs.Layout.{Depths, Marks}
-use Rattle.splice_facts.specs.Spliced.{Current, AreLow, twin, from_here, cost}
+use Rattle.splice_facts.specs.Spliced.{twin, from_here, cost}
 use Rattle.splice_laws.specs.Straight.{pop, at_place, frame_at, StandAt, Stay, Acts_so}
+use Rattle.splice_laws.specs.PendingHandlers.{Pending}
 use Rattle.splice_laws.specs.DropCode.{drop_code, DropAt, DropCode, DropsArguments}
 use Rattle.splice_facts.proofs.ComesLaws.{arrives_plain, comes_at_once, comes_within}
+use Rattle.splice_laws.proofs.PendingLaws.{run_on}
 use Rattle.splice_laws.proofs.StraightLaws.{one_step, steps_by, goes_one, does_pop, world_back}
 
 module _ (p' : Program) (here : Here) where
@@ -37,15 +39,8 @@ module _ (p' : Program) (here : Here) where
   unfolding act act_of_class class_of opcode_of the_opcodes
   acts_pop_empty l w = refl
 
--- handlers of the old table that hold the old place hold each place that the same of them hold
-all_stay : (old new : Handling → Bool) (rows : ℕ) (hs : List Handling) → ((h : Handling) → h.handler < rows → new h ≡ old h) → (p : Program) (k : Contracts) (p' : Program) (g : AddedNumbers) (n : ℕ) (depths : Depths n g) (me : ℕ) → rows ≡ length (body_of p me).regions → AreLow p k p' g n depths me hs → filter new hs ≡ filter old hs
-all_stay old new rows [] same p k p' g n depths me e low = refl
-all_stay old new rows (h ∷ hs) same p k p' g n depths me e low =
-    ap (λ b. if b then h ∷ filter new hs else filter new hs) (same h (subst (λ r. h.handler < r) (sym e) low.0))
-    ∙ ap (λ xs. if old h then h ∷ xs else xs) (all_stay old new rows hs same p k p' g n depths me e low.1)
-
 module _ (p : Program) (k : Contracts) (p' : Program) (g : AddedNumbers) (n : ℕ) (depths : Depths n g) (me : ℕ) (plan : Plan) (m : Marks) (code : DropCode p k p' g n depths me plan m) where
-  module _ (f : Frame) (fs fs' : List Frame) (w : World) (ex : List Cell) (ss : List Statics) (b : Continuation) (hs : List Handling) (i : Instr) (a : f.method ≡ me) (z : DropAt p k p' g n depths me plan m f.at i) (current : Current p k p' g n depths me f.at hs) where
+  module _ (f : Frame) (fs fs' : List Frame) (w : World) (ex : List Cell) (ss : List Statics) (b : Continuation) (hs : List Handling) (i : Instr) (a : f.method ≡ me) (z : DropAt p k p' g n depths me plan m f.at i) (pending : Pending p k p' g n depths me f.at hs) where
     abbrev F : Frame
     F = twin p k p' g n depths f f.local [] 0 [] b
 
@@ -59,9 +54,7 @@ module _ (p : Program) (k : Contracts) (p' : Program) (g : AddedNumbers) (n : �
     at_me q j there = ap (λ y. slice_get (body_of p' y).instrs q) a ∙ there
 
     stays : Stay p' F (S + 1) hs
-    stays =
-        ap (λ y. filter (in_handler (body_of p' y).regions (S + 1)) hs) a
-        ∙ all_stay (in_handler (body_of p me).regions (place_in f.at)) (in_handler (body_of p' me).regions (S + 1)) (length (body_of p me).regions) hs z.between p k p' g n depths me refl current.0 ∙ current.1
+    stays = ap (λ y. filter (in_handler (body_of p' y).regions (S + 1)) hs) a ∙ run_on p k p' g n depths me f.at (S + 1) hs pending z.between
 
     arrived : (rest : List Value) (q : ℕ) → Next
     arrived rest q = goes_at p' (twin p k p' g n depths f (with_stack f.local rest) ex q hs b) (Rest q) (grow ex (with_stack f.local rest)) hs fs' W
@@ -116,4 +109,4 @@ module _ (p : Program) (k : Contracts) (p' : Program) (g : AddedNumbers) (n : �
     dropped_here = comes_within p' 2 (cost k p) _ _ (omega arith) (by_message (has_message p i) z.code z.next)
 
   pub drops : DropsArguments p k p' g n depths me plan m
-  drops f fs fs' w ex ss b hs i kd label home a here inl s current = dropped_here f fs fs' w ex ss b hs i a (code f fs i kd home label a here inl) current
+  drops f fs fs' w ex ss b hs i kd label home a here inl s pending = dropped_here f fs fs' w ex ss b hs i a (code f fs i kd home label a here inl) pending

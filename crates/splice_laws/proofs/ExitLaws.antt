@@ -44,7 +44,7 @@ use Rattle.splice_facts.specs.Input.{top_of, ReturnsAsNamed}
 use Rattle.splice_laws.specs.ExitCode.{goes_to, lifted_code, exit_code, LiftedAt, ExitCode, ExitSeams}
 use Rattle.splice_laws.proofs.LeavingLaws.{leaves_plainly}
 use Rattle.splice_laws.proofs.ToldLaws.{rets_plainly}
-use Rattle.splice_laws.proofs.GroupLaws.{none_of, acts_empty, acts_unkept}
+use Rattle.splice_laws.proofs.StuckCheckLaws.{none_of, acts_empty, acts_unkept}
 
 kept_value : (p : Program) (t : Ty) (h : Storage) (y : Value) (s : List Value) (x : Value) → kept_as p t h (y ∷ s) ≡ Some (Some x) → stored_in p t y ≡ Some x
 kept_value p t Void y s x e = let q : None ≡ Some x = cc e in absurd (cc q)

@@ -20,11 +20,12 @@ use Rattle.cil_semantics.specs.Places.{storage, prim_storage, stored, stored_in}
 use Rattle.cil_semantics.specs.declared.state.Local.{Local as LocalState}
 use Rattle.cil_semantics.specs.declared.state.World.{World}
 use Rattle.cil_semantics.specs.declared.state.ProgramPoint.TheVariants.{Rest}
+use Rattle.cil_semantics.specs.declared.state.Handling.{Handling}
 use Rattle.cil_semantics.specs.declared.state.Frame.{Frame}
 use Rattle.cil_semantics.specs.State.{Next, unrecorded, recorded_after, goes_after, with_stack, with_object, next_object}
 use Rattle.cil_semantics.specs.Tokens.{Here, meaning_of, meaning_here, token_here, if_little, meaning_under}
 use Rattle.cil_semantics.specs.Acts.{truth, truth_at, with_this, arity, CallMember, Throw}
-use Rattle.cil_semantics.specs.Unwind.{body_of, here_of, find_statics, unwind}
+use Rattle.cil_semantics.specs.Unwind.{body_of, here_of, goes_at, find_statics, unwind}
 use Rattle.cil_semantics.specs.Frames.{stuck, stored_args}
 use Rattle.cil_semantics.specs.Returns.{kept_as}
 use Rattle.cil_semantics.specs.Outside.{Answer, Returned, Threw, Unfit, ask}
@@ -41,7 +42,7 @@ use Rattle.splice_facts.proofs.ComesLaws.{comes_at_once, comes_on, comes_within,
 use Rattle.splice_facts.proofs.StoreLaws.{stored_plain}
 use Rattle.splice_laws.proofs.StraightLaws.{one_step, goes_one, jumps_one, steps_by, world_back, does_ldarg, does_ldnull, does_dup, does_pop, tests_brtrue, acts_call, acts_throw, called}
 use Rattle.splice_laws.proofs.LeavingLaws.{unwind_told}
-use Rattle.splice_laws.proofs.HelperCallLaws.{callee, calls, code_is, returns_now, passes_through, int_kept}
+use Rattle.splice_laws.proofs.HelperCallLaws.{callee, calls, code_is, returns_behind, passes_through, int_kept}
 use Rattle.splice_facts.proofs.AskFrameLaws.{with_frames, ask_frames, event_plain}
 use Rattle.splice_laws.proofs.AskLaws.{told_answer, Refers, RefersTo, Leaves_statics, ask_told, ask_refers, ask_leaves, calls_event}
 
@@ -100,9 +101,9 @@ module _ (p : Program) where
 
     -- ---- from where `fail` was called
 
-    module _ (f : Frame) (l : LocalState) (rest : List Value) (q : ℕ) (fs : List Frame) (x : Failure) (makes : World → Ty → ℕ → List Value → Next) (notmade : NotMade x.kind) (ref : stored Reference x.user ≡ Some x.user) where
+    module _ (f : Frame) (l : LocalState) (rest : List Value) (q : ℕ) (hs : List Handling) (fs : List Frame) (x : Failure) (makes : World → Ty → ℕ → List Value → Next) (notmade : NotMade x.kind) (ref : stored Reference x.user ≡ Some x.user) where
       abbrev FS : List Frame
-      FS = frame_at f (with_stack l rest) q [] ∷ fs
+      FS = frame_at f (with_stack l rest) q hs ∷ fs
 
       abbrev cells : List Cell
       cells = cell int32 (number_value x) ∷ cell string_ty x.user ∷ cell string_ty (label_text x) ∷ []
@@ -117,7 +118,7 @@ module _ (p : Program) where
       vals = number_value x ∷ x.user ∷ label_text x ∷ Null ∷ []
 
       abbrev T : Sequel
-      T = record { passes = λ v. at_place f (with_stack l rest) (q + 1) [] fs v; throws = λ v y. unwind p no_contracts false FS v y; makes = makes; stops = λ v. stuck v }
+      T = record { passes = λ v. goes_at p f (Rest (q + 1)) (with_stack l rest) hs fs v; throws = λ v y. unwind p no_contracts false FS v y; makes = makes; stops = λ v. stuck v }
 
       all_passed : stored_args p params (number_value x ∷ x.user ∷ label_text x ∷ []) ≡ Some cells
       all_passed =
@@ -167,12 +168,12 @@ module _ (p : Program) where
               one_step p G (with_stack l0 (v ∷ v ∷ [])) 6 [] FS w 18 _ _ (jumps_one p G (with_stack l0 (v ∷ v ∷ [])) (with_stack l0 (v ∷ [])) 6 9 [] FS w (brtrue 9) (at_code 6 _ refl) (tests_brtrue p here 9 v (v ∷ []) l0 true e) refl)
               (throws_own v w fit)
 
-          goes_false : truth v ≡ Some false → Comes p 19 (at_place G (with_stack l0 (v ∷ v ∷ [])) 6 [] FS w) (at_place f (with_stack l rest) (q + 1) [] fs w)
+          goes_false : truth v ≡ Some false → Comes p 19 (at_place G (with_stack l0 (v ∷ v ∷ [])) 6 [] FS w) (goes_at p f (Rest (q + 1)) (with_stack l rest) hs fs w)
           goes_false e =
               comes_within p 3 19 _ _ (omega arith)
               (one_step p G (with_stack l0 (v ∷ v ∷ [])) 6 [] FS w 2 _ _ (goes_one p G (with_stack l0 (v ∷ v ∷ [])) (with_stack l0 (v ∷ [])) 6 [] FS w (brtrue 9) (at_code 6 _ refl) (tests_brtrue p here 9 v (v ∷ []) l0 false e) refl)
               (one_step p G (with_stack l0 (v ∷ [])) 7 [] FS w 1 _ _ (goes_one p G (with_stack l0 (v ∷ [])) l0 7 [] FS w pop (at_code 7 _ refl) (does_pop p here v [] l0) refl)
-              (one_step p G l0 8 [] FS w 0 _ _ (returns_now p c guard r fail params nothing code hf.is cells l0 (with_stack l rest) 8 q f [] fs w None refl (nothing_kept []) refl)
+              (one_step p G l0 8 [] FS w 0 _ _ (returns_behind p c guard r fail params nothing code hf.is cells l0 (with_stack l rest) 8 q f hs fs w None refl (nothing_kept []))
               (comes_at_once p 0 _ _ refl))))
 
           by_value : (o : Value-F Value) → out-Value v ≡ o → Refers o → Comes p 19 (at_place G (with_stack l0 (v ∷ v ∷ [])) 6 [] FS w) (replied p g true x T o fs w)
@@ -228,7 +229,7 @@ module _ (p : Program) where
           ∙ ap (λ z. goes_after w.trace (on_answer p no_contracts z)) (ask_frames p (event_member g (label_text x)) vals GS (unrecorded w) (event_plain g (label_text x)))
 
       whole : (a : ℕ) (t : Token) (w : World) → slice_get (body_of p f.method).instrs q ≡ Some (call a t) → meaning_of p a t ≡ Some (OfMethod (Known c) fail []) → FitsFail g c w
-          → Comes p fail_cost (at_place f (with_stack l (label_text x ∷ x.user ∷ number_value x ∷ rest)) q [] fs w) (failing p g true x T fs w)
+          → Comes p fail_cost (at_place f (with_stack l (label_text x ∷ x.user ∷ number_value x ∷ rest)) q hs fs w) (failing p g true x T fs w)
       unfolding failing
       whole a t w there token fit =
           let L = with_stack l (label_text x ∷ x.user ∷ number_value x ∷ rest) in
@@ -238,7 +239,7 @@ module _ (p : Program) where
           let l3 = with_stack l0 (label_text x ∷ x.user ∷ number_value x ∷ []) in
           let l4 = with_stack l0 (Null ∷ label_text x ∷ x.user ∷ number_value x ∷ []) in
           comes_within p 26 fail_cost _ _ (omega arith)
-          (one_step p f L q [] fs w 25 _ _ (calls p c guard r fail params nothing code hf.is f L (with_stack l rest) q [] fs w a t (number_value x ∷ x.user ∷ label_text x ∷ []) cells fit.depth there token (three_there (length rest)) refl refl all_passed fit.held)
+          (one_step p f L q hs fs w 25 _ _ (calls p c guard r fail params nothing code hf.is f L (with_stack l rest) q hs fs w a t (number_value x ∷ x.user ∷ label_text x ∷ []) cells fit.depth there token (three_there (length rest)) refl refl all_passed fit.held)
           (one_step p G l0 0 [] FS w 24 _ _ (goes_one p G l0 l1 0 [] FS w (ldarg 0) (at_code 0 _ refl) (does_ldarg p here 0 (cell int32 (number_value x)) l0 refl) refl)
           (one_step p G l1 1 [] FS w 23 _ _ (goes_one p G l1 l2 1 [] FS w (ldarg 1) (at_code 1 _ refl) (does_ldarg p here 1 (cell string_ty x.user) l1 refl) refl)
           (one_step p G l2 2 [] FS w 22 _ _ (goes_one p G l2 l3 2 [] FS w (ldarg 2) (at_code 2 _ refl) (does_ldarg p here 2 (cell string_ty (label_text x)) l2 refl) refl)
@@ -249,4 +250,4 @@ module _ (p : Program) where
 
     -- what the facts on checks ask of `fail`, where failures throw
     pub fail_runs : FailRuns p g true c fail (FitsFail g c)
-    fail_runs f l rest q fs w a t x makes there token notmade ref fit = whole f l rest q fs x makes notmade ref a t w there token fit
+    fail_runs f l rest q hs fs w a t x makes there token notmade ref fit = whole f l rest q hs fs x makes notmade ref a t w there token fit

@@ -52,7 +52,7 @@ use Rattle.cil_semantics.specs.Places.{stored_in}
 use Rattle.splice_facts.proofs.StoreLaws.{stored_plain}
 use Rattle.splice_facts.proofs.ComesLaws.{no_plan, arrives_plain, comes_at_once, comes_within}
 use Rattle.splice_facts.proofs.Small.{uncut, one_more, one_less, over, guarded, none_needed}
-use Rattle.splice_laws.proofs.StraightLaws.{steps_by, arrives_at, world_back, acts_call, acts_ret, called, one_step, goes_one, jumps_one, does_ldc, does_add, does_sub, tests_bgt, picked}
+use Rattle.splice_laws.proofs.StraightLaws.{steps_by, arrives_at, arrives_with, world_back, acts_call, acts_ret, called, one_step, goes_one, jumps_one, does_ldc, does_add, does_sub, tests_bgt, picked}
 use Rattle.splice_laws.specs.Straight.{Stay}
 
 eq_itself : (n : ℕ) → (n == n) ≡ true
@@ -239,19 +239,25 @@ module _ (p : Program) (c guard : ℕ) (r : HasRuntime p c guard) where
         ∙ ap (goes_after w.trace) (starts values cells d (frame_at f l2 q hs ∷ fs) (unrecorded w) e h)
         ∙ ap (λ v. at_place (callee m cells) (callee m cells).local 0 [] (frame_at f l2 q hs ∷ fs) v) (world_back w)
 
-    -- its end
-    pub returns_now : (cells : List Cell) (l lc : LocalState) (q qc : ℕ) (f : Frame) (hs : List Handling) (fs : List Frame) (w : World) (v : Option Value)
-        → slice_get code q ≡ Some ret → kept_as p (under [] [] result) (storage p (under [] [] result)) l.stack ≡ Some v → Stay p f (qc + 1) hs
-        → plain_step p (record { frames = frame_at (callee m cells) l q [] ∷ frame_at f lc qc hs ∷ fs; world = w }) ≡ at_place f (maybe lc (λ x. pushed x lc) v) (qc + 1) hs fs w
+    -- its end; what handlers go on is said by the place behind the call
+    pub returns_behind : (cells : List Cell) (l lc : LocalState) (q qc : ℕ) (f : Frame) (hs : List Handling) (fs : List Frame) (w : World) (v : Option Value)
+        → slice_get code q ≡ Some ret → kept_as p (under [] [] result) (storage p (under [] [] result)) l.stack ≡ Some v
+        → plain_step p (record { frames = frame_at (callee m cells) l q [] ∷ frame_at f lc qc hs ∷ fs; world = w }) ≡ goes_at p f (Rest (qc + 1)) (maybe lc (λ x. pushed x lc) v) hs fs w
     unfolding return_to
-    returns_now cells l lc q qc f hs fs w v there e st =
+    returns_behind cells l lc q qc f hs fs w v there e =
         let F : Frame = frame_at (callee m cells) l q [] in
         let fs2 : List Frame = frame_at f lc qc hs ∷ fs in
         steps_by p (callee m cells) l q [] fs2 w ret (λ z. Return) (ap (λ is. slice_get is q) code_is ∙ there) (acts_ret p (here_of (callee m cells) fs2) l)
         ∙ ap (λ o. goes_after w.trace (if_there (kept_as p (under [] [] o) (storage p (under [] [] o)) l.stack) (unrecorded w) (λ x. return_from p no_contracts (plan_at no_contracts p m) (Rest q) (with_local (record l { result = x }) F) fs2 (unrecorded w)))) s.result
         ∙ ap (λ o. goes_after w.trace (if_there o (unrecorded w) (λ x. return_from p no_contracts (plan_at no_contracts p m) (Rest q) (with_local (record l { result = x }) F) fs2 (unrecorded w)))) e
         ∙ ap (λ o. goes_after w.trace (return_from p no_contracts o (Rest q) (with_local (record l { result = v }) F) fs2 (unrecorded w))) (no_plan p m)
-        ∙ arrives_at p (frame_at f lc qc hs) (maybe lc (λ x. pushed x lc) v) (qc + 1) hs fs w st
+        ∙ arrives_with p (frame_at f lc qc hs) (maybe lc (λ x. pushed x lc) v) (qc + 1) hs fs w
+
+    pub returns_now : (cells : List Cell) (l lc : LocalState) (q qc : ℕ) (f : Frame) (hs : List Handling) (fs : List Frame) (w : World) (v : Option Value)
+        → slice_get code q ≡ Some ret → kept_as p (under [] [] result) (storage p (under [] [] result)) l.stack ≡ Some v → Stay p f (qc + 1) hs
+        → plain_step p (record { frames = frame_at (callee m cells) l q [] ∷ frame_at f lc qc hs ∷ fs; world = w }) ≡ at_place f (maybe lc (λ x. pushed x lc) v) (qc + 1) hs fs w
+    returns_now cells l lc q qc f hs fs w v there e st =
+        returns_behind cells l lc q qc f hs fs w v there e ∙ ap (λ z. at_place f (maybe lc (λ x. pushed x lc) v) (qc + 1) z fs w) st
 
   -- ---- enter and leave
 

@@ -1,6 +1,6 @@
 -- Regions of the plain machine's bodies: searches, leave, endfinally, and exceptions.
 use Rattle.std.proofs.Common.{◌≡◌, ℕ, suc, ◌+◌, Bool, true, false, List, [], ◌∷◌, ◌++◌, length, Option, Some, None, refl, sym, ap, ◌∙◌, arith}
-use Rattle.std.specs.Prelude.{slice_get, if◌then◌else◌, ◌&&◌, not}
+use Rattle.std.specs.Prelude.{slice_get, if◌then◌else◌, filter, ◌&&◌, not}
 use Rattle.cil_base.specs.declared.token.Token.{Token}
 use Rattle.cil_model.specs.declared.ty.Ty.{Ty}
 use Rattle.cil_model.specs.declared.body.Region.{Region}
@@ -19,9 +19,9 @@ use Rattle.cil_semantics.specs.State.{State, Next, Running, Ended, unrecorded, r
 use Rattle.cil_semantics.specs.Acts.{Leave, EndHandler}
 use Rattle.cil_semantics.specs.Unwind.{body_of, here_of, in_try, in_handler, is_finally, goes_at, arrive_in, plan_at, Found, NoHandler, CatchHandler, CleanupHandler, search_from, found_in, searched, left_from, leave_through, resume_cause, throws_in, land, no_handler_left, ends_frame, unwind, Below, hasnt_begun, fits_type, caught_type, thrown_name}
 use Rattle.machine_laws.specs.Same.{plain_step}
-use Rattle.splice_laws.specs.Straight.{leave, endfinally, frame_at, at_place, Misses}
+use Rattle.splice_laws.specs.Straight.{leave, endfinally, frame_at, at_place, Misses, LeavesFreely}
 use Rattle.splice_facts.proofs.ComesLaws.{no_plan}
-use Rattle.splice_laws.proofs.StraightLaws.{steps_by, arrives_at, rows, world_back, acts_leave, acts_endfinally}
+use Rattle.splice_laws.proofs.StraightLaws.{steps_by, arrives_at, arrives_with, rows, world_back, acts_leave, acts_endfinally}
 use Rattle.splice_laws.specs.Straight.{Stay}
 
 -- ---- searches
@@ -29,7 +29,7 @@ use Rattle.splice_laws.specs.Straight.{Stay}
 pick : {X : Type 0} (b : Bool) (x y : X) → b ≡ false → (if b then x else y) ≡ y
 pick b x y e = ap (λ c. if c then x else y) e
 
-picks : {X : Type 0} (b : Bool) (x y : X) → b ≡ true → (if b then x else y) ≡ x
+pub picks : {X : Type 0} (b : Bool) (x y : X) → b ≡ true → (if b then x else y) ≡ x
 picks b x y e = ap (λ c. if c then x else y) e
 
 onto : (i : ℕ) (rs : List Region) → (i + 1) + length rs ≡ i + suc (length rs)
@@ -57,11 +57,15 @@ and_not : (a b c : Bool) → b ≡ false → (a && (b && c)) ≡ false
 and_not true b c e = ap (λ z. z && c) e
 and_not false b c e = refl
 
+and_first : (a b c : Bool) → (a && b) ≡ false → (a && (b && c)) ≡ false
+and_first true b c e = ap (λ z. z && c) e
+and_first false b c e = refl
+
 module _ (q t : ℕ) where
-  pub left_past : (i : ℕ) (rs more : List Region) → Misses q rs → left_from 0 i q t (rs ++ more) ≡ left_from 0 (i + length rs) q t more
+  pub left_past : (i : ℕ) (rs more : List Region) → LeavesFreely q rs → left_from 0 i q t (rs ++ more) ≡ left_from 0 (i + length rs) q t more
   left_past i [] more h = ap (λ j. left_from 0 j q t more) (stays i)
   left_past i (r ∷ rs) more h =
-      pick (is_finally r.kind && (in_try r q && not (in_try r t))) (Some (i, r)) (left_from 0 (i + 1) q t (rs ++ more)) (and_not (is_finally r.kind) (in_try r q) (not (in_try r t)) h.0)
+      pick (is_finally r.kind && (in_try r q && not (in_try r t))) (Some (i, r)) (left_from 0 (i + 1) q t (rs ++ more)) (and_first (is_finally r.kind) (in_try r q) (not (in_try r t)) h.0)
       ∙ left_past (i + 1) rs more h.1 ∙ ap (λ j. left_from 0 j q t more) (onto i rs)
 
   pub left_behind : (i : ℕ) (rs : List Region) (r : Region) (more : List Region) → left_from (suc (length rs)) i q t (rs ++ r ∷ more) ≡ left_from 0 (i + length rs + 1) q t more
@@ -108,6 +112,15 @@ module _ (p : Program) where
       steps_by p f l q hs fs w (leave t) (λ v. Leave t) there (acts_leave p (here_of f fs) t l)
       ∙ ap (λ o. goes_after w.trace (leave_through p no_contracts o (frame_at f l q hs) hs q t fs (unrecorded w))) none
       ∙ arrives_at p (frame_at f l q hs) (with_stack l []) t hs fs w st
+
+  -- leave, out of handlers
+  pub leaves_out : (f : Frame) (l : LocalState) (q t : ℕ) (hs hs2 : List Handling) (fs : List Frame) (w : World) → slice_get (body_of p f.method).instrs q ≡ Some (leave t) → left_from 0 0 q t (rows p f) ≡ None → filter (in_handler (rows p f) t) hs ≡ hs2
+      → plain_step p (record { frames = frame_at f l q hs ∷ fs; world = w }) ≡ at_place f (with_stack l []) t hs2 fs w
+  leaves_out f l q t hs hs2 fs w there none st =
+      steps_by p f l q hs fs w (leave t) (λ z. Leave t) there (acts_leave p (here_of f fs) t l)
+      ∙ ap (λ o. goes_after w.trace (leave_through p no_contracts o (frame_at f l q hs) hs q t fs (unrecorded w))) none
+      ∙ arrives_with p (frame_at f l q hs) (with_stack l []) t hs fs w
+      ∙ ap (λ z. at_place f (with_stack l []) t z fs w) st
 
   -- leave through a finally
   pub leaves_into : (f : Frame) (l : LocalState) (q t v : ℕ) (r : Region) (hs : List Handling) (fs : List Frame) (w : World) → slice_get (body_of p f.method).instrs q ≡ Some (leave t) → left_from 0 0 q t (rows p f) ≡ Some (v, r)

@@ -6,12 +6,14 @@ pub mod FailLaws
 pub mod ExceptionLaws
 pub mod SeamLocalLaws
 pub mod CheckLaws
+pub mod StuckCheckLaws
 pub mod EntryGroupLaws
 pub mod GroupLaws
 pub mod LoadLaws
 pub mod RequiresLaws
 pub mod ToldLaws
 pub mod ExitLaws
+pub mod PendingLaws
 pub mod DropLaws
 pub mod UntouchedLaws
 pub mod DepthLaws

@@ -40,7 +40,7 @@ module _ (p : Program) (k : Contracts) (p' : Program) (g : AddedNumbers) (n : �
     Sc f fs fs' w ex ss = Paired p k p' g n depths m f fs fs' w ex ss
 
     at_entry : GroupSeams p k p' g n depths me plan m group.Entry
-    at_entry = seams p k p' g n depths me plan m group.Entry r e many small settings
+    at_entry = seams p k p' g n depths me plan m group.Entry r e.frame many e.door_code small settings
 
     as_entry : (f : Frame) (fs fs' : List Frame) (w : World) (ex : List Cell) (ss : List Statics) (b : Continuation) (o : Option (ℕ × Piece)) (t : Bool) → BeginsAt p k p' g n depths me plan m group.Entry (stands p k p' g n depths f f.local ex (m.door group.Entry) b fs' w ss) f fs f.local b fs' w o t
         → EntersAt p k p' g n depths m plan (cost k p) (stands p k p' g n depths f f.local ex (m.door group.Entry) b fs' w ss) f fs f.local b fs' w o t
@@ -79,7 +79,7 @@ module _ (p : Program) (k : Contracts) (p' : Program) (g : AddedNumbers) (n : �
 
     entry_drops_none : (j : ℕ) (o : Option Piece) → piece_at (Some plan) group.Entry j ≡ o → drops o ≡ false
     entry_drops_none j None q = refl
-    entry_drops_none j (Some x) q = ap (maybe false (λ c. true)) ((e.clauses j x q).1)
+    entry_drops_none j (Some x) q = ap (maybe false (λ c. true)) ((given.plain j x q).1)
 
     not_exit : group.Exit ≢ group.Entry
     not_exit q = cc q
@@ -130,9 +130,9 @@ module _ (p : Program) (k : Contracts) (p' : Program) (g : AddedNumbers) (n : �
               (λ there1 fit1. at_entry.continues j x f fs fs' w ex ss b there1 a (no_exception f.thrown fit1) some s)
               (λ d there1 fit1. absurd (no_piece gr j x d there1)) there fit;
           breaks = λ gr j q q' f fs fs' w ex ss b x at here bel a fit some s dr.
-              by_group (λ gr1. f.at ≡ InGroup gr1 j q → (ss2 : List Statics) × Rattle.splice_facts.specs.Spliced.Beside p k p' g n depths (state.lowered w) ss2 × Comes p' (cost k p) (Rattle.cil_semantics.specs.Unwind.unwind p' Rattle.cil_model.specs.NoContracts.no_contracts false (Rattle.splice_facts.specs.Spliced.twin p k p' g n depths f f.local ex q' [] b ∷ fs') (beside ss w) x) (Rattle.splice_facts.specs.Spliced.leaves_with p k p' g n depths f b fs' (state.lowered w) ss2 x)) gr
-              (λ at1. at_entry.breaks j q q' f fs fs' w ex ss b x at1 bel a some s)
-              (λ d at1. let h = subst (IsHere (Some plan)) at1 here in absurd (no_piece gr j h.0 d h.1)) at;
+              by_group (λ gr1. f.at ≡ InGroup gr1 j q → drops (piece_at (Some plan) gr1 j) ≡ false → (ss2 : List Statics) × Rattle.splice_facts.specs.Spliced.Beside p k p' g n depths (state.lowered w) ss2 × Comes p' (cost k p) (Rattle.cil_semantics.specs.Unwind.unwind p' Rattle.cil_model.specs.NoContracts.no_contracts false (Rattle.splice_facts.specs.Spliced.twin p k p' g n depths f f.local ex q' [] b ∷ fs') (beside ss w) x) (Rattle.splice_facts.specs.Spliced.leaves_with p k p' g n depths f b fs' (state.lowered w) ss2 x)) gr
+              (λ at1 dr1. at_entry.breaks j q q' f fs fs' w ex ss b x at1 here bel a some s dr1)
+              (λ d at1 dr1. let h = subst (IsHere (Some plan)) at1 here in absurd (no_piece gr j h.0 d h.1)) at dr;
           swallows = λ gr j q q' f fs fs' w ex ss b x at here bel a fit some s dr thrown.
               absurd (by_group (λ gr1. f.at ≡ InGroup gr1 j q → drops (piece_at (Some plan) gr1 j) ≡ true → ⊥) gr
               (λ at1 dr1. let z : false ≡ true = sym (entry_drops_none j (piece_at (Some plan) group.Entry j) refl) ∙ dr1 in cc z)
@@ -143,16 +143,16 @@ module _ (p : Program) (k : Contracts) (p' : Program) (g : AddedNumbers) (n : �
           lifts_stuck = λ f fs fs' w ex ss b hs q i a named ext. absurd (no_exit ext);
           checks = λ gr j q x i kd c f fs fs' w ex ss b a at here there instr ends s given1.
               by_group (λ gr1. f.at ≡ InGroup gr1 j q → piece_at (Some plan) gr1 j ≡ Some x → Rattle.splice_facts.specs.Spliced.Checked p k p' g n depths m f fs fs' w ex ss b [] (Rattle.splice_facts.specs.Spliced.clause_failure p k p' g n depths f fs x c.user) c.holds c.rest (m.behind gr1 j)) gr
-              (λ at1 there1. at_entry.checks j q x i kd c f fs fs' w ex ss b a at1 there1 instr ends s given1)
+              (λ at1 there1. at_entry.checks j q x i kd c f fs fs' w ex ss b a at1 here there1 (given.plain j x there1).0 instr ends s given1)
               (λ d at1 there1. absurd (no_piece gr j x d there1)) at there;
           checks_stuck = λ gr j q x i kd f fs fs' w ex ss b a at here there instr ends s none.
               by_group (λ gr1. f.at ≡ InGroup gr1 j q → piece_at (Some plan) gr1 j ≡ Some x → Comes p' (cost k p) (from_here p k p' g n depths m f ex b fs' w ss []) (stuck (beside ss w))) gr
-              (λ at1 there1. at_entry.checks_stuck j q x i kd f fs fs' w ex ss b a at1 there1 instr ends s none)
+              (λ at1 there1. at_entry.checks_stuck j q x i kd f fs fs' w ex ss b a at1 here there1 (given.plain j x there1).0 instr ends s none)
               (λ d at1 there1. absurd (no_piece gr j x d there1)) at there;
           asserts = λ f fs fs' w ex ss b hs i kd c label home a here inl. absurd (given.no_inline f fs f.at i kd home label inl);
           asserts_stuck = λ f fs fs' w ex ss b hs i kd label home a here inl. absurd (given.no_inline f fs f.at i kd home label inl);
           drops_arguments = λ f fs fs' w ex ss b hs i kd label home a here inl. absurd (given.no_inline f fs f.at i kd home label inl);
-          takes = λ gr j q x i c f fs fs' w ex ss b a at here there cap. absurd (by_group (λ gr1. piece_at (Some plan) gr1 j ≡ Some x → ⊥) gr (λ there1. let z : None ≡ Some c = sym ((e.clauses j x there1).1) ∙ cap in cc z) (λ d there1. no_piece gr j x d there1) there);
+          takes = λ gr j q x i c f fs fs' w ex ss b a at here there cap. absurd (by_group (λ gr1. piece_at (Some plan) gr1 j ≡ Some x → ⊥) gr (λ there1. let z : None ≡ Some c = sym ((given.plain j x there1).1) ∙ cap in cc z) (λ d there1. no_piece gr j x d there1) there);
           recalls = λ gr j q x o c f fs fs' w ex ss b a at here there rec. absurd (given.no_old gr j q x o there rec);
           results = λ gr j q x i v f fs fs' w ex ss b a at here there instr res. absurd (given.no_result gr j q x i there instr res);
           loads = λ gr j q x i f fs fs' w ex ss b a at here there rec instr call s. loads_argument p k p' g n depths me plan m given.loads gr j q x i f fs fs' w ex ss b a at here there instr call s;

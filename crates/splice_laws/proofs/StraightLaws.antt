@@ -18,13 +18,13 @@ use Rattle.cil_semantics.specs.declared.state.World.{World}
 use Rattle.cil_semantics.specs.declared.state.ProgramPoint.TheVariants.{Rest}
 use Rattle.cil_semantics.specs.declared.state.Handling.{Handling}
 use Rattle.cil_semantics.specs.declared.state.Frame.{Frame}
-use Rattle.cil_semantics.specs.State.{Next, Running, unrecorded, recorded_after, goes_after, with_stack, pushed}
+use Rattle.cil_semantics.specs.State.{Next, unrecorded, recorded_after, goes_after, with_stack, pushed}
 use Rattle.il_opcodes.specs.Opcodes.{class_of, opcode_of, the_opcodes}
 use Rattle.cil_semantics.specs.Tokens.{Here, meaning_here}
 use Rattle.cil_semantics.specs.Acts as Acts
 use Rattle.cil_semantics.specs.Acts.{Act, GoOn, Jump, Throw, Leave, EndHandler, Return, UseStatic, CallMember, Call, truth, is_wanted, if_some, branch, text_in, on_static, on_type, taken, method_in, with_this, compare}
 use Rattle.cil_semantics.specs.Instructions.{act, act_of_class}
-use Rattle.cil_semantics.specs.Unwind.{body_of, here_of, arrive_in, plan_at}
+use Rattle.cil_semantics.specs.Unwind.{body_of, here_of, arrive_in, plan_at, goes_at}
 use Rattle.cil_semantics.specs.Frames.{if_there}
 use Rattle.cil_semantics.specs.Machine.{step, step_at, perform, run_plain, unused_numbers}
 use Rattle.machine_laws.specs.Same.{plain_step}
@@ -145,12 +145,12 @@ module _ (p : Program) where
       ∙ ap (λ o. goes_after w.trace (if_there o (unrecorded w) (λ j. run_plain p no_contracts (unused_numbers p) j (frame_at f l q hs) fs (unrecorded w)))) there
       ∙ ap (λ b. goes_after w.trace (done b (frame_at f l q hs) fs (unrecorded w))) (so (unrecorded w))
 
-  -- the plain machine comes to a place
+  -- the plain machine comes to a place; what handlers go on is said by it
+  pub arrives_with : (f : Frame) (l : LocalState) (q : ℕ) (hs : List Handling) (fs : List Frame) (w : World) → goes_after w.trace (arrive_in p (plan_at no_contracts p f.method) f (Rest q) l hs fs (unrecorded w)) ≡ goes_at p f (Rest q) l hs fs w
+  arrives_with f l q hs fs w = ap (goes_after w.trace) (arrives_plain p f (Rest q) l hs fs (unrecorded w)) ∙ ap (λ v. goes_at p f (Rest q) l hs fs v) (world_back w)
+
   pub arrives_at : (f : Frame) (l : LocalState) (q : ℕ) (hs : List Handling) (fs : List Frame) (w : World) → Stay p f q hs → goes_after w.trace (arrive_in p (plan_at no_contracts p f.method) f (Rest q) l hs fs (unrecorded w)) ≡ at_place f l q hs fs w
-  arrives_at f l q hs fs w st =
-      ap (goes_after w.trace) (arrives_plain p f (Rest q) l hs fs (unrecorded w))
-      ∙ ap (λ z. Running (record { frames = frame_at f l q z ∷ fs; world = recorded_after w.trace (unrecorded w) })) st
-      ∙ ap (λ v. at_place f l q hs fs v) (world_back w)
+  arrives_at f l q hs fs w st = arrives_with f l q hs fs w ∙ ap (λ z. at_place f l q z fs w) st
 
   pub goes_one : (f : Frame) (l m : LocalState) (q : ℕ) (hs : List Handling) (fs : List Frame) (w : World) (i : Instr) → slice_get (body_of p f.method).instrs q ≡ Some i → Does p (here_of f fs) i l m → Stay p f (q + 1) hs
       → plain_step p (record { frames = frame_at f l q hs ∷ fs; world = w }) ≡ at_place f m (q + 1) hs fs w
@@ -159,6 +159,10 @@ module _ (p : Program) where
   pub jumps_one : (f : Frame) (l m : LocalState) (q t : ℕ) (hs : List Handling) (fs : List Frame) (w : World) (i : Instr) → slice_get (body_of p f.method).instrs q ≡ Some i → Acts_so p (here_of f fs) i l (λ v. Jump t m) → Stay p f t hs
       → plain_step p (record { frames = frame_at f l q hs ∷ fs; world = w }) ≡ at_place f m t hs fs w
   jumps_one f l m q t hs fs w i there so st = steps_by f l q hs fs w i (λ v. Jump t m) there so ∙ arrives_at (frame_at f l q hs) m t hs fs w st
+
+  pub jumps_behind : (f : Frame) (l m : LocalState) (q t : ℕ) (hs : List Handling) (fs : List Frame) (w : World) (i : Instr) → slice_get (body_of p f.method).instrs q ≡ Some i → Acts_so p (here_of f fs) i l (λ v. Jump t m)
+      → plain_step p (record { frames = frame_at f l q hs ∷ fs; world = w }) ≡ goes_at p f (Rest t) m hs fs w
+  jumps_behind f l m q t hs fs w i there so = steps_by f l q hs fs w i (λ v. Jump t m) there so ∙ arrives_with (frame_at f l q hs) m t hs fs w
 
   -- ---- runs of straight code, where no handler runs
 

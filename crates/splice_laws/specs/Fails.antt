@@ -19,10 +19,12 @@ use Rattle.il_opcodes.specs.declared.class.Storage.TheVariants.{Reference}
 use Rattle.cil_semantics.specs.Places.{stored, layout, field_place}
 use Rattle.cil_semantics.specs.declared.state.Local.{Local as LocalState}
 use Rattle.cil_semantics.specs.declared.state.World.{World}
+use Rattle.cil_semantics.specs.declared.state.ProgramPoint.TheVariants.{Rest}
+use Rattle.cil_semantics.specs.declared.state.Handling.{Handling}
 use Rattle.cil_semantics.specs.declared.state.Frame.{Frame}
 use Rattle.cil_semantics.specs.State.{Next, with_stack, with_object, next_object}
 use Rattle.cil_semantics.specs.Tokens.{meaning_of}
-use Rattle.cil_semantics.specs.Unwind.{body_of, unwind, find_statics}
+use Rattle.cil_semantics.specs.Unwind.{body_of, goes_at, unwind, find_statics}
 use Rattle.cil_semantics.specs.Frames.{stuck, is_initializer}
 use Rattle.cil_semantics.specs.Core.{kind_ty, exception_ty}
 use Rattle.cil_semantics.specs.Checks.{AddedNumbers, Failure, label_text, number_value, contract_failure}
@@ -72,16 +74,16 @@ pub record HasFail (p' : Program) (g : AddedNumbers) (owner fail a : ℕ) : Type
   pub event_is : IsHelper p' g.event event_name (kind_ty ∷ string_ty ∷ string_ty ∷ exception_ty ∷ []) string_ty
   pub makes : MakesFailure p' g owner a ctor
 
--- void fail(int32 kind, string user, string label): the failure is reported; then it returns, or throws
+-- void fail(int32 kind, string user, string label), wherever it is called: the failure is reported; then it returns, or throws
 abbrev pub FailRuns : (p' : Program) (g : AddedNumbers) (throwing : Bool) (owner : ℕ) (fail : ℕ) → (World → Type 0) → Type 0
 FailRuns p' g throwing owner fail Fit =
-    (f : Frame) (l : LocalState) (rest : List Value) (q : ℕ) (fs : List Frame) (w : World) (a : ℕ) (t : Token) (x : Failure) (makes : World → Ty → ℕ → List Value → Next)
+    (f : Frame) (l : LocalState) (rest : List Value) (q : ℕ) (hs : List Handling) (fs : List Frame) (w : World) (a : ℕ) (t : Token) (x : Failure) (makes : World → Ty → ℕ → List Value → Next)
     → slice_get (body_of p' f.method).instrs q ≡ Some (call a t) → meaning_of p' a t ≡ Some (OfMethod (Known owner) fail []) → NotMade x.kind → stored Reference x.user ≡ Some x.user → Fit w
-    → Comes p' fail_cost (at_place f (with_stack l (label_text x ∷ x.user ∷ number_value x ∷ rest)) q [] fs w)
+    → Comes p' fail_cost (at_place f (with_stack l (label_text x ∷ x.user ∷ number_value x ∷ rest)) q hs fs w)
     (failing p' g throwing x
     (record {
-      passes = λ v. at_place f (with_stack l rest) (q + 1) [] fs v;
-      throws = λ v y. unwind p' no_contracts false (frame_at f (with_stack l rest) q [] ∷ fs) v y;
+      passes = λ v. goes_at p' f (Rest (q + 1)) (with_stack l rest) hs fs v;
+      throws = λ v y. unwind p' no_contracts false (frame_at f (with_stack l rest) q hs ∷ fs) v y;
       makes = makes;
       stops = λ v. stuck v;
     })

@@ -5,6 +5,7 @@ pub mod HelperRuns
 pub mod EntryCode
 pub mod GroupSeams
 pub mod ExitCode
+pub mod PendingHandlers
 pub mod DropCode
 pub mod LoadCode
 pub mod RequiresOnly

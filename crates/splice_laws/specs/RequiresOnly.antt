@@ -1,5 +1,5 @@
 -- A body whose kept clauses are all Requires, and without Assert, Assume, Result and OldValue: what its splice has besides the entry group.
-use Rattle.std.specs.Prelude.{◌≡◌, ◌≢◌, ℕ, ◌<◌, false, List, [], length, slice_get, Some}
+use Rattle.std.specs.Prelude.{◌≡◌, ◌≢◌, ℕ, ◌<◌, false, List, [], length, slice_get, Some, None}
 use Rattle.cil_model.specs.declared.body.Instr.{Instr}
 use Rattle.cil_model.specs.declared.contract.Contracts.{Contracts}
 use Rattle.cil_model.specs.declared.contract.Old.{Old}
@@ -19,12 +19,14 @@ use Rattle.cil_semantics.specs.declared.contract_call.ContractCall.TheVariants.{
 use Rattle.cil_semantics.specs.Checks.{AddedNumbers, recalled}
 use Rattle.splice_facts.specs.Layout.{Depths, Marks}
 use Rattle.splice_facts.specs.Spliced.{IsInline}
+use Rattle.splice_laws.specs.Fails.{NotMade}
 use Rattle.splice_laws.specs.LoadCode.{LoadCode}
 
 module _ (p : Program) (k : Contracts) (p' : Program) (g : AddedNumbers) (n : ℕ) (depths : Depths n g) (me : ℕ) (plan : Plan) (m : Marks) where
   -- what the input and the marks give besides
   pub record RequiresOnly : Type 0 where
     pub only : (gr : Group) → gr ≢ group.Entry → pieces plan gr ≡ []
+    pub plain : (j : ℕ) (x : Piece) → piece_at (Some plan) group.Entry j ≡ Some x → NotMade x.clause.kind × (x.captures ≡ None)
     pub doors : (gr : Group) → gr ≢ group.Entry → m.door gr ≡ m.out gr
     pub entry_door : m.door group.Entry ≡ m.places (LeadIn plan.effective.lead_end)
     pub entry_out : m.out group.Entry ≡ m.places (Rest plan.effective.rest_from)

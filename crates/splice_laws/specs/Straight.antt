@@ -14,9 +14,9 @@ use Rattle.cil_semantics.specs.declared.state.Local.{Local as LocalState}
 use Rattle.cil_semantics.specs.Tokens.{Here}
 use Rattle.cil_semantics.specs.Acts.{Act, GoOn}
 use Rattle.cil_semantics.specs.Instructions.{act}
-use Rattle.std.specs.Prelude.{ℤ, false, filter}
+use Rattle.std.specs.Prelude.{ℤ, false, filter, ◌&&◌}
 use Rattle.cil_model.specs.declared.body.Region.{Region}
-use Rattle.cil_semantics.specs.Unwind.{body_of, in_try, in_handler}
+use Rattle.cil_semantics.specs.Unwind.{body_of, in_try, in_handler, is_finally}
 
 -- an instruction without prefixes
 abbrev pub ins : ℕ → Operand → Instr
@@ -123,6 +123,11 @@ module _ (p : Program) (here : Here) where
 abbrev pub Misses : ℕ → List Region → Type 0
 Misses q [] = Unit {0}
 Misses q (r ∷ rs) = (in_try r q ≡ false) × Misses q rs
+
+-- no finally of these holds the place
+abbrev pub LeavesFreely : ℕ → List Region → Type 0
+LeavesFreely q [] = Unit {0}
+LeavesFreely q (r ∷ rs) = ((is_finally r.kind && in_try r q) ≡ false) × LeavesFreely q rs
 
 -- the handlers that run go on at a place
 abbrev pub Stay : Program → Frame → ℕ → List Handling → Type 0

@@ -210,36 +210,47 @@ pub code : EntryCode input output numbers true 2 guard helpers 0 the_plan the_ma
 unfolding everything helpers
 code =
     record {
-      tools = tools;
-      enter_token = refl;
-      leave_token = refl;
-      fail_token = refl;
-      handler = 13;
-      opens = (refl, (refl, tt));
-      lowers = (refl, (refl, tt));
-      first = the_piece;
-      there = refl;
-      first_here = refl;
-      on = λ j x y a b. absurd (in_entry (λ gr i z. piece_at (Some the_plan) gr (i + 1) ≡ Some y → ⊥) (λ q. let z : None ≡ Some y = q in cc z) group.Entry j x a b);
-      over = λ j x a b. in_entry (λ gr i z. slice_get (Rattle.cil_semantics.specs.Unwind.body_of output 0).instrs 12 ≡ Some (Rattle.splice_laws.specs.Straight.leave 15)) refl group.Entry j x a;
-      old = [];
-      round = [];
-      regions = refl;
-      apart = λ q a b. (tt, tt);
-      room = (omega arith, omega arith);
-      belongs_in = λ j q q' h. between q' h;
-      behind_in = λ j x a. (omega arith, omega arith);
-      begins_in = λ j x a. in_entry (λ gr i z. (2 ≤ z.from + 2) × (z.from + 2 < 13)) (omega arith, omega arith) group.Entry j x a;
-      condition_at = 0;
-      message_at = 1;
-      condition_is = refl;
-      message_is = refl;
-      condition_ty = λ here e. refl;
-      message_ty = λ here e. refl;
-      apart_too = (((λ e. absurd (omega (arith, e)), λ e. absurd (omega (arith, e)))), (λ e. absurd (omega (arith, e)), λ e. absurd (omega (arith, e))), λ e. absurd (omega (arith, e)));
-      clauses = λ j x a. in_entry (λ gr i z. NotMade z.clause.kind × (z.captures ≡ None)) (tt, refl) group.Entry j x a;
-      label = λ x. token 0x70 1;
-      labelled = λ j x a. in_entry (λ gr i z. Rattle.cil_semantics.specs.Tokens.meaning_of output 0 (token 0x70 1) ≡ Some (Rattle.cil_model.specs.declared.program.Meaning.TheVariants.OfText (Rattle.cil_model.specs.Texts.text_units z.clause.label))) refl group.Entry j x a;
-      checks = λ j q x i kd a b c. in_entry (λ gr k z. slice_get z.clause.instrs q ≡ Some i → IsCheckOf (kind_number z.clause.kind) q i) (λ b1. ends_at IsCheck the_check q i kd b1 c) group.Entry j x a b;
-      seam_belongs = λ j q x i kd a b c q' lo hi. within q' (omega (arith, lo)) (omega (arith, hi));
+      frame =
+          record {
+            body = 2;
+            reporting =
+                record {
+                  tools = tools;
+                  fail_token = refl;
+                  condition_at = 0;
+                  message_at = 1;
+                  condition_is = refl;
+                  message_is = refl;
+                  condition_ty = λ here e. refl;
+                  message_ty = λ here e. refl;
+                  apart_too = (((λ e. absurd (omega (arith, e)), λ e. absurd (omega (arith, e)))), (λ e. absurd (omega (arith, e)), λ e. absurd (omega (arith, e))), λ e. absurd (omega (arith, e)));
+                };
+            enter_token = refl;
+            leave_token = refl;
+            handler = 13;
+            lowers = (refl, (refl, tt));
+            before = [];
+            round = [];
+            regions = refl;
+            apart = λ q a b. (tt, tt);
+            kept_out = λ j q q' x a none h. tt;
+            room = (omega arith, omega arith);
+            belongs_in = λ j q q' h. between q' h;
+            behind_in = λ j x a. (omega arith, omega arith);
+            begins_in = λ j x a. in_entry (λ gr i z. (2 ≤ z.from + 2) × (z.from + 2 < 13)) (omega arith, omega arith) group.Entry j x a;
+            label = λ x. token 0x70 1;
+            labelled = λ j x a. in_entry (λ gr i z. Rattle.cil_semantics.specs.Tokens.meaning_of output 0 (token 0x70 1) ≡ Some (Rattle.cil_model.specs.declared.program.Meaning.TheVariants.OfText (Rattle.cil_model.specs.Texts.text_units z.clause.label))) refl group.Entry j x a;
+            checks = λ j q x i kd here a kept b c. in_entry (λ gr k z. slice_get z.clause.instrs q ≡ Some i → IsCheckOf (kind_number z.clause.kind) q i) (λ b1. ends_at IsCheck the_check q i kd b1 c) group.Entry j x a b;
+            seam_belongs = λ j q x i kd here a kept b c q' lo hi. within q' (omega (arith, lo)) (omega (arith, hi));
+          };
+      door_code =
+          record {
+            starts = refl;
+            opens = (refl, (refl, tt));
+            first = the_piece;
+            there = refl;
+            first_here = refl;
+            on = λ j x y a b. absurd (in_entry (λ gr i z. piece_at (Some the_plan) gr (i + 1) ≡ Some y → ⊥) (λ q. let z : None ≡ Some y = q in cc z) group.Entry j x a b);
+            over = λ j x a b. in_entry (λ gr i z. slice_get (Rattle.cil_semantics.specs.Unwind.body_of output 0).instrs 12 ≡ Some (Rattle.splice_laws.specs.Straight.leave 15)) refl group.Entry j x a;
+          };
     }

@@ -24,6 +24,7 @@ use Rattle.splice_facts.specs.Grown.{IsCopy}
 use Rattle.splice_facts.specs.Layout.{IsHere, CanArrive, Onward, fetch, LeadsOn, never_falls}
 use Rattle.splice_facts.specs.Spliced.{IsInline, IsPlainAt, Spliced, Groups, is_copied, is_guarded}
 use Rattle.splice_facts.specs.Input.{InputFacts, is_group, is_followed}
+use Rattle.splice_laws.specs.Fails.{NotMade}
 use Rattle.splice_laws.specs.RequiresOnly.{RequiresOnly}
 use Rattle.splice_laws.specs.Straight.{ldarg, ldc, add, ret}
 use Rattle.splice_laws.proofs.RequiresLaws.{requires_meet}
@@ -135,6 +136,7 @@ pub only : RequiresOnly input contracts output numbers 2 depths 0 the_plan the_m
 only =
     record {
       only = no_other;
+      plain = λ j x a. in_entry (λ gr i z. NotMade z.clause.kind × (z.captures ≡ None)) (tt, refl) group.Entry j x a;
       doors = passed_over;
       entry_door = refl;
       entry_out = refl;

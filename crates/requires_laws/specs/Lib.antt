@@ -1,0 +1,2 @@
+pub mod ReportCode
+pub mod MadeCode

@@ -1,0 +1,5 @@
+pub mod InlineLaws
+pub mod TriggerLaws
+pub mod QuietFailLaws
+pub mod CaptureLaws
+pub mod RecallLaws

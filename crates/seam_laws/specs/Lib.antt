@@ -1,0 +1,4 @@
+pub mod InlineCode
+pub mod QuietFail
+pub mod CaptureCode
+pub mod RecallCode

@@ -1,0 +1,3 @@
+pub mod WrapperLaws
+pub mod TestLaws
+pub mod ThrowGroupLaws

@@ -1,0 +1,2 @@
+pub mod WrapperCode
+pub mod ThrowCode
