@@ -1,3 +1,2 @@
 pub mod ContractLaws
 pub mod RewriteLaws
-pub mod SetLaws

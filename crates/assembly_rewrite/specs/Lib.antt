@@ -1,2 +1,1 @@
 pub mod Rewrite
-pub mod Sets

@@ -71,7 +71,7 @@ fn first_of_tables(tables: &Tables, heaps: &Heaps<'_>) -> Option<Refusal>
 }
 
 /// Z1 at the first row of the assembly that tells of Code Contracts.
-pub(crate) fn first_contract_row(assembly: &Assembly<'_>) -> Option<Refusal>
+pub fn first_contract_row(assembly: &Assembly<'_>) -> Option<Refusal>
     ensures { MatchOption result (NoneBroken (IsContract (metadata_of assembly.now.bytes) assembly.now.assembly)) (First (IsContract (metadata_of assembly.now.bytes) assembly.now.assembly)) }
 {
     first_of_tables(assembly.tables(), assembly.heaps())

@@ -3,7 +3,6 @@
 
 mod contract_rows;
 mod rewrite;
-mod set;
 
+pub use contract_rows::first_contract_row;
 pub use rewrite::rewrite_assembly;
-pub use set::rewrite_set;

@@ -10,14 +10,14 @@ ghost use Rattle.command_line.specs.declared.words.Command.{Command};
 ghost use Rattle.body_splice.specs.Rewrite.{IsRewriting, KeepsBodyRules, IsBodyRefusal};
 ghost use Rattle.cil_base.specs.declared.limits.TheConstants.{ASSEMBLY_LIMIT};
 ghost use Rattle.assembly_rewrite.specs.Rewrite.{KeepsRows};
-ghost use Rattle.assembly_rewrite.specs.Sets.{bytes_at, IsSetRefusal, KeepsSetRules};
+ghost use Rattle.set_rewrite.specs.Sets.{bytes_at, IsSetRefusal, KeepsSetRules};
 ghost use Rattle.program.specs.Layers.{IsInnerRefusal, KeepsInnerRules};
 ghost use Rattle.program.specs.Reading.{reading, AreWithin};
 ghost use Rattle.program.specs.Program.{IsMade, PutsFile, FromBytes, FileAnswer, Answer, Puts, Expected};
 ghost use Rattle.program.specs.Replies.{Replied};
 
 use crate::reading::{FilesFault, read_files, refusal_of_number};
-use assembly_rewrite::rewrite_set;
+use set_rewrite::rewrite_set;
 use body_splice::rewrite_body;
 use cil_base::limits::ASSEMBLY_LIMIT;
 use cil_base::{Bytes, Fault, Refusal};

@@ -86,6 +86,66 @@ fn add_all(builder: &mut Builder, with_class: bool, with_contract: bool) -> Resu
     Ok(())
 }
 
+#[tactic(auto, unfolding(cli_tables::specs::Schema::the_tables))]
+fn add_signature(builder: &mut Builder, signature: u32) -> Result<u32, Fault> {
+    builder.row(0x11, &[signature])
+}
+
+#[tactic(auto, unfolding(cli_tables::specs::Schema::the_tables))]
+fn add_type_spec(builder: &mut Builder, signature: u32) -> Result<u32, Fault> {
+    builder.row(0x1B, &[signature])
+}
+
+#[tactic(auto, unfolding(cli_tables::specs::Schema::the_tables))]
+fn add_constructor(builder: &mut Builder, name: u32, signature: u32) -> Result<u32, Fault> {
+    builder.row(0x0A, &[2 * 8 + 1, name, signature])
+}
+
+#[tactic(auto, unfolding(cli_tables::specs::Schema::the_tables))]
+fn add_attribute(builder: &mut Builder, value: u32) -> Result<u32, Fault> {
+    builder.row(0x0C, &[32 + 3, 8 + 3, value])
+}
+
+/// A ContractClass attribute on `<Module>` with these bytes as its value.
+fn add_contract_class(builder: &mut Builder, value: &[u8]) -> Result<(), Fault> {
+    let class = builder.string(b"ContractClassAttribute")?;
+    let namespace = builder.string(b"System.Diagnostics.Contracts")?;
+    let constructor = builder.string(b".ctor")?;
+    let signature = builder.blob(&[0x20, 0, 1])?;
+    let value = builder.blob(value)?;
+    add_type_ref(builder, class, class)?;
+    add_type_ref(builder, class, namespace)?;
+    add_constructor(builder, constructor, signature)?;
+    add_attribute(builder, value)?;
+    Ok(())
+}
+
+/// In which row a blob stands.
+#[derive(Clone, Copy)]
+pub(crate) enum Holder {
+    Signature,
+    TypeSpec,
+    ContractClass,
+}
+
+/// The bytes of an assembly with a row that names this blob.
+pub(crate) fn with_blob(alloc: Global, holder: Holder, blob: &[u8]) -> Result<Vec<u8>, Fault> {
+    let mut builder = Builder::new(alloc)?;
+    add_rows(&mut builder)?;
+    match holder {
+        Holder::Signature => {
+            let signature = builder.blob(blob)?;
+            add_signature(&mut builder, signature)?;
+        }
+        Holder::TypeSpec => {
+            let signature = builder.blob(blob)?;
+            add_type_spec(&mut builder, signature)?;
+        }
+        Holder::ContractClass => add_contract_class(&mut builder, blob)?,
+    }
+    finished(alloc, builder)
+}
+
 pub(crate) fn made(alloc: Global, with_class: bool, with_contract: bool) -> Result<Vec<u8>, Fault> {
     let mut builder = Builder::new(alloc)?;
     add_all(&mut builder, with_class, with_contract)?;

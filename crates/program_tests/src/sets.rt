@@ -1,7 +1,7 @@
 // `rewrite` of an assembly with others that it refers to.
 
 use crate::commands::{listed, words_from};
-use crate::rewrite::{has_the_rows, made};
+use crate::rewrite::{Holder, has_the_rows, made, with_blob};
 use cil_base::{Fault, U32s};
 use outside_core::{MemSink, MemStore};
 use program::run_words;
@@ -98,5 +98,65 @@ fn a_set_has_at_most_64_assemblies(rt: HostRuntime) -> Result<(), Fault> {
     let limit = b"refused: L2 assembly 0 table 00 row 0 at 65\n".as_slice();
     let past = many_answer(rt.alloc(), 65, (1, limit))?;
     assert!(rt; within && past);
+    Ok(())
+}
+
+/// Whether two assemblies with these blobs are refused with this text, and nothing is written.
+fn blobs_answer(
+    alloc: Global,
+    own: (Holder, &[u8]),
+    other: (Holder, &[u8]),
+    want: &[u8],
+) -> Result<bool, Fault> {
+    let mut store = MemStore::new(alloc, U32s::new(alloc));
+    store.put_file("a.dll", &with_blob(alloc, own.0, own.1)?)?;
+    store.put_file("b.dll", &with_blob(alloc, other.0, other.1)?)?;
+    let mut out = MemSink::new(alloc, 100, U32s::new(alloc))?;
+    let words = words_from(alloc, &["rewrite", "--out", "out", "a.dll", "b.dll"])?;
+    let status = run_words(alloc, words.as_slice(), &mut store, &mut out);
+    Ok(status == 1 && out.taken() == want && store.file("out").is_none())
+}
+
+#[test]
+fn signatures_of_a_set_are_refused(rt: HostRuntime) -> Result<(), Fault> {
+    let alloc = rt.alloc();
+    let array: &[u8] = &[0x1D, 0x08];
+    let no_item: &[u8] = &[0x1D];
+    let no_local: &[u8] = &[0x07, 0x01];
+    let no_locals: &[u8] = &[0x08];
+    let no_text: &[u8] = &[0x01, 0x00];
+    let spec = Holder::TypeSpec;
+    let locals = Holder::Signature;
+    let class = Holder::ContractClass;
+    let cases: [((Holder, &[u8]), (Holder, &[u8]), &[u8]); 5] = [
+        (
+            (spec, array),
+            (spec, no_item),
+            b"refused: S1 assembly 1 table 1B row 1 at 1\n",
+        ),
+        (
+            (locals, no_local),
+            (spec, no_item),
+            b"refused: S1 assembly 0 table 11 row 1 at 2\n",
+        ),
+        (
+            (locals, no_locals),
+            (locals, no_local),
+            b"refused: S1 assembly 1 table 11 row 1 at 2\n",
+        ),
+        (
+            (class, no_text),
+            (spec, no_item),
+            b"refused: S2 assembly 0 table 0C row 1 at 2\n",
+        ),
+        (
+            (class, &[0x01, 0x00, 0x01, 0x58, 0x00, 0x00]),
+            (spec, array),
+            b"refused: Z1 assembly 0 table 01 row 2 at 0\n",
+        ),
+    ];
+    for (own, other, want) in cases {
+        assert!(rt; blobs_answer(alloc, own, other, want)?);
+    }
     Ok(())
 }

@@ -12,7 +12,8 @@ use Rattle.pe_image.specs.Images.{File}
 use Rattle.pe_image.specs.Cli.{metadata_of}
 use Rattle.assembly.specs.Assemblies as reading
 use Rattle.assembly_rewrite.specs.Rewrite as one
-use Rattle.assembly_rewrite.specs.Sets.{bytes_at, bytes_of, files_from, reading_layers, all_reading_layers, later_layers, Layer, Reading, Contracts, OfTarget, Breaks, Names, MayBoth, IsContractOf}
+use Rattle.set_blobs.specs.BadBlobs.{BreaksBlobs}
+use Rattle.set_rewrite.specs.Sets.{bytes_at, bytes_of, files_from, reading_layers, all_reading_layers, writing_layers, later_layers, Layer, Reading, Signatures, Contracts, OfTarget, Breaks, Names, MayBoth, IsContractOf, assemblies_of}
 use Rattle.assembly_rewrite.proofs.RewriteLaws as one_laws
 
 -- ---- layers of reading
@@ -150,23 +151,36 @@ module _ (set : List (List ℕ)) where
 
   -- ---- what is refused behind them
 
-  pub refused_later : 0 < length set → NoneBroken (IsContractOf set) → (r : Refusal) → one.IsRewriteRefusal (bytes_at set 0) 0 r → InLayers (Breaks set) (Names set) later_layers r
+  pub refused_later : 0 < length set → NoneBroken (IsContractOf set) → (r : Refusal) → one.IsRewriteRefusal (bytes_at set 0) 0 r → InLayers (Breaks set) (Names set) writing_layers r
   refused_later some none r (inl h) =
       let number : 0 ≡ r.assembly = sym h.broken.assembly_is in
       absurd (none r (omega (arith, some, number), subst (λ (j : ℕ). Has j r) number h.broken))
   refused_later some none r (inr h) = inr (none, h.1)
 
-  pub kept_later : NoneBroken (IsContractOf set) → one.KeepsRewriteRules (bytes_at set 0) 0 → NoneOf (Breaks set) later_layers
+  pub kept_later : NoneBroken (IsContractOf set) → one.KeepsRewriteRules (bytes_at set 0) 0 → NoneOf (Breaks set) writing_layers
   kept_later none h = (none, h.1)
 
 -- ---- which refusals are named
 
 pub names_broken : (set : List (List ℕ)) (l : Layer) (r : Refusal) → Names set l r → Breaks set l r
 names_broken set (Reading a l) r h = h.broken
+names_broken set Signatures r h = h.broken
 names_broken set Contracts r h = h.broken
 names_broken set (OfTarget l) r h = one_laws.names_broken (bytes_at set 0) 0 l r h
 
 pub names_one : (set : List (List ℕ)) (l : Layer) (r s : Refusal) → Names set l r → Names set l s → (s ≡ r) ⊎ MayBoth set l s r
 names_one set (Reading a l) r s h k = inl (first_is_one (reading.Breaks (bytes_at set a) a l) r s h k)
+names_one set Signatures r s h k = inl (first_is_one (BreaksBlobs (assemblies_of set)) r s h k)
 names_one set Contracts r s h k = inl (first_is_one (IsContractOf set) r s h k)
 names_one set (OfTarget l) r s h k = one_laws.names_one (bytes_at set 0) 0 l r s h k
+
+-- ---- the rules on blobs, and what comes behind them
+
+abbrev pub AreSound : List (List ℕ) → Type 0
+AreSound set = NoneBroken (BreaksBlobs (assemblies_of set))
+
+pub refused_behind : (set : List (List ℕ)) (r : Refusal) → AreSound set → InLayers (Breaks set) (Names set) writing_layers r → InLayers (Breaks set) (Names set) later_layers r
+refused_behind set r sound h = inr (sound, h)
+
+pub kept_behind : (set : List (List ℕ)) → AreSound set → NoneOf (Breaks set) writing_layers → NoneOf (Breaks set) later_layers
+kept_behind set sound h = (sound, h)

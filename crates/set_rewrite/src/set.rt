@@ -3,12 +3,15 @@ ghost use Rattle.std.specs.Prelude.{◌≡◌, ◌+◌, ◌<◌, ◌^◌, ◌++�
 ghost use Rattle.cil_base.specs.Refusals.{First, NoneBroken, InLayers, NoneOf, OnRefused};
 ghost use Rattle.assembly.specs.Assemblies.{IsReadable, IsUnread};
 ghost use Rattle.assembly_rewrite.specs.Rewrite.{KeepsRows};
-ghost use Rattle.assembly_rewrite.specs.Sets.{bytes_at, bytes_of, files_from, all_reading_layers, later_layers, Breaks, Names, IsContractOf, IsSetRefusal, KeepsSetRules};
+ghost use Rattle.set_blobs.specs.BadBlobs.{BreaksBlobs, TellsFirst};
+ghost use Rattle.set_rewrite.specs.Sets.{bytes_at, bytes_of, files_from, all_reading_layers, later_layers, writing_layers, assemblies_of, Breaks, Names, IsContractOf, IsSetRefusal, KeepsSetRules};
 
-use crate::contract_rows::first_contract_row;
-use crate::rewrite::rewrite_assembly;
 use assembly::Assembly;
+use assembly_rewrite::{first_contract_row, rewrite_assembly};
 use cil_base::{Bytes, Fault, Refusal};
+use set_blobs::blob_fault;
+use set_program::Part;
+use set_rows::Rows;
 use std::alloc::{AllocError, Global};
 
 /// Appends an assembly; after an error the list is as it was.
@@ -66,12 +69,12 @@ fn first_in_set(set: &[Assembly<'_>]) -> Option<Refusal>
 }
 
 /// Writes the first of the assemblies anew, where none of them has contracts.
-fn rewrite_first(alloc: Global, set: &[Assembly<'_>]) -> Result<Bytes, Fault>
+fn rewrite_plain(alloc: Global, set: &[Assembly<'_>]) -> Result<Bytes, Fault>
     requires numbered { set.now ≡ files_from 0 (bytes_of set.now) }
     requires some { 0 < length set.now }
     ensures done { IfOk result (KeepsRows (bytes_at (bytes_of set.now) 0) 0) }
-    ensures accepted { OnOk result (NoneOf (Breaks (bytes_of set.now)) later_layers) }
-    ensures refused { OnRefused result (InLayers (Breaks (bytes_of set.now)) (Names (bytes_of set.now)) later_layers) }
+    ensures accepted { OnOk result (NoneOf (Breaks (bytes_of set.now)) writing_layers) }
+    ensures refused { OnRefused result (InLayers (Breaks (bytes_of set.now)) (Names (bytes_of set.now)) writing_layers) }
 {
     if let Some(refusal) = first_in_set(set) {
         return Err(Fault::Refused(refusal));
@@ -79,9 +82,47 @@ fn rewrite_first(alloc: Global, set: &[Assembly<'_>]) -> Result<Bytes, Fault>
     rewrite_assembly(alloc, &set[0])
 }
 
+/// The assemblies with their names found beforehand.
+fn parts<'a>(alloc: Global, set: &'a [Assembly<'a>]) -> Result<Vec<Part<'a>>, AllocError>
+    ensures { IfOk result (λ parts. parts.items ≡ assemblies_of (bytes_of set.now)) }
+{
+    let mut parts = Vec::new(alloc);
+    for assembly in set {
+        parts.push(Part::new(alloc, Rows::new(assembly))?)?;
+    }
+    Ok(parts)
+}
+
+/// S1 or S2 at the first row of a set whose blob is in no grammar of its kind.
+fn first_bad_blob<'a>(alloc: Global, set: &'a [Assembly<'a>]) -> Result<Option<Refusal>, AllocError>
+    requires { length set.now < 2 ^ 32 }
+    ensures { IfOk result (TellsFirst (BreaksBlobs (assemblies_of (bytes_of set.now)))) }
+{
+    let parts = parts(alloc, set)?;
+    blob_fault(alloc, parts.as_slice())
+}
+
+/// Writes the first of the assemblies anew, where each signature is one and none has contracts.
+fn rewrite_first<'a>(alloc: Global, set: &'a [Assembly<'a>]) -> Result<Bytes, Fault>
+    requires numbered { set.now ≡ files_from 0 (bytes_of set.now) }
+    requires some { 0 < length set.now }
+    requires few { length set.now < 2 ^ 32 }
+    ensures done { IfOk result (KeepsRows (bytes_at (bytes_of set.now) 0) 0) }
+    ensures accepted { OnOk result (NoneOf (Breaks (bytes_of set.now)) later_layers) }
+    ensures refused { OnRefused result (InLayers (Breaks (bytes_of set.now)) (Names (bytes_of set.now)) later_layers) }
+{
+    match first_bad_blob(alloc, set) {
+        Err(fault) => return Err(fault.into()),
+        Ok(Some(refusal)) => return Err(Fault::Refused(refusal)),
+        Ok(None) => {}
+    }
+    rewrite_plain(alloc, set)
+}
+
 /// The bytes of the first of these assemblies in an image that has grown by one section, which
-/// holds its metadata. The refusal is the first of P and M, assembly by assembly; then of Z1 where
-/// one of them has contracts; then of L5, P5 and L6, as `rewrite_assembly` says.
+/// holds its metadata. The refusal is the first of P and M, assembly by assembly; then of S1 and S2
+/// over the set; then of Z1 where one of them has contracts; then of L5, P5 and L6, as
+/// `rewrite_assembly` says.
 pub fn rewrite_set(alloc: Global, files: &[Bytes]) -> Result<Bytes, Fault>
     requires short { (a : ℕ) → length (bytes_at files.now a) < 2 ^ 32 }
     requires few { length files.now < 2 ^ 32 }

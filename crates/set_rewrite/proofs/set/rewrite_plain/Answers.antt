@@ -6,9 +6,9 @@ use Rattle.cil_base.proofs.RefusalLaws.{OnRefused-weaker}
 use Rattle.std.proofs.lemmas.List.{length-map}
 use Rattle.pe_image.specs.Images.{File}
 use Rattle.assembly_rewrite.specs.Rewrite.{KeepsRewriteRules, IsRewriteRefusal}
-use Rattle.assembly_rewrite.specs.Sets.{bytes_of}
-use Rattle.assembly_rewrite.proofs.SetLaws.{refused_later, kept_later, element}
-use Rattle.assembly_rewrite.proofs.set.rewrite_first.Goals as goal
+use Rattle.set_rewrite.specs.Sets.{bytes_of}
+use Rattle.set_rewrite.proofs.SetLaws.{refused_later, kept_later, element}
+use Rattle.set_rewrite.proofs.set.rewrite_plain.Goals as goal
 
 pub returns-clause-accepted : goal.returns-clause-accepted
 returns-clause-accepted c =

@@ -5,9 +5,9 @@ use Rattle.cil_base.proofs.Small.{on_ok}
 use Rattle.cil_base.proofs.RefusalLaws.{OnRefused-weaker, IfRefused-weaker}
 use Rattle.cil_base.proofs.LayerLaws.{named_before, named_behind, none_joined}
 use Rattle.pe_image.specs.Images.{File}
-use Rattle.assembly_rewrite.specs.Sets.{bytes_of, files_from, all_reading_layers, later_layers, Breaks, Names}
-use Rattle.assembly_rewrite.proofs.SetLaws.{bytes_back, count_files}
-use Rattle.assembly_rewrite.proofs.set.rewrite_set.Goals as goal
+use Rattle.set_rewrite.specs.Sets.{bytes_of, files_from, all_reading_layers, later_layers, Breaks, Names}
+use Rattle.set_rewrite.proofs.SetLaws.{bytes_back, count_files}
+use Rattle.set_rewrite.proofs.set.rewrite_set.Goals as goal
 
 -- the bytes of what was read are those of the files
 same_bytes : (all : List (List ℕ)) (set slice : List File) → set ≡ files_from 0 all → slice ≡ set → bytes_of slice ≡ all
@@ -28,6 +28,11 @@ rewrite_first-requires-clause-some c =
     let slice = c.as_slice.ensures.value in
     let e : length c.as_slice.result.now ≡ length c.args.files.now = ap length (slice ∙ c.in-Ok.ensures.ok) ∙ count_files 0 c.args.files.now in
     omega (arith, e, c.requires.some)
+
+pub rewrite_first-requires-clause-few : goal.rewrite_first-requires-clause-few
+rewrite_first-requires-clause-few c =
+    let e : length c.as_slice.result.now ≡ length c.args.files.now = ap length (c.as_slice.ensures.value ∙ c.in-Ok.ensures.ok) ∙ count_files 0 c.args.files.now in
+    omega (arith, e, c.requires.few)
 
 pub returns-clause-accepted : goal.returns-clause-accepted
 returns-clause-accepted c =

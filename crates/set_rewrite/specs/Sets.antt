@@ -6,6 +6,8 @@ use Rattle.cil_base.specs.Refusals.{First, InLayers, NoneOf}
 use Rattle.pe_image.specs.Images.{File}
 use Rattle.pe_image.specs.Cli.{metadata_of}
 use Rattle.assembly.specs.Assemblies as reading
+use Rattle.set_rows.specs.Sets.{Assemblies, assembly_of}
+use Rattle.set_blobs.specs.BadBlobs.{BreaksBlobs}
 use Rattle.assembly_rewrite.specs.Rewrite as one
 
 -- the bytes of an assembly, by its number
@@ -22,9 +24,10 @@ bytes_of files = map (λ file. file.bytes) files
 
 -- ---- the layers of rules
 
--- the rules on the bytes of one assembly; Z1 on all; then those on TARGET as it is written
+-- the rules on the bytes of one assembly; those on blobs, and Z1, on all; then those on TARGET as it is written
 pub data Layer : Type 0 where
   Reading : ℕ → reading.Layer → Layer
+  Signatures : Layer
   Contracts : Layer
   OfTarget : one.Layer → Layer
 
@@ -35,12 +38,20 @@ reading_layers a = map (Reading a) reading.layers
 abbrev pub all_reading_layers : ℕ → ℕ → List Layer
 all_reading_layers a n = flat_map reading_layers (range_with_len a n)
 
+-- what is tried where the rules on the set's rows are kept
+abbrev pub writing_layers : List Layer
+writing_layers = Contracts ∷ OfTarget one.Limits ∷ OfTarget one.Room ∷ []
+
 abbrev pub later_layers : List Layer
-later_layers = Contracts ∷ OfTarget one.Limits ∷ OfTarget one.Room ∷ []
+later_layers = Signatures ∷ writing_layers
 
 -- of a set of so many, in the order in which they are tried
 abbrev pub layers : ℕ → List Layer
 layers n = all_reading_layers 0 n ++ later_layers
+
+-- the assemblies as their tables and heaps
+abbrev pub assemblies_of : List (List ℕ) → Assemblies
+assemblies_of set = map assembly_of set
 
 -- some assembly of the set has contracts, which aren't rewritten yet
 abbrev pub IsContractOf : List (List ℕ) → Refusal → Type 0
@@ -49,12 +60,14 @@ IsContractOf set r = (r.assembly < length set) × one.IsContract (metadata_of (b
 -- a rule that the set breaks, and where
 abbrev pub Breaks : List (List ℕ) → Layer → Refusal → Type 0
 Breaks set (Reading a layer) = reading.Breaks (bytes_at set a) a layer
+Breaks set Signatures = BreaksBlobs (assemblies_of set)
 Breaks set Contracts = IsContractOf set
 Breaks set (OfTarget layer) = one.Breaks (bytes_at set 0) 0 layer
 
 -- which refusals may be named where the layer is the first that is broken
 abbrev pub Names : List (List ℕ) → Layer → Refusal → Type 0
 Names set (Reading a layer) = reading.Names (bytes_at set a) a layer
+Names set Signatures = First (BreaksBlobs (assemblies_of set))
 Names set Contracts = First (IsContractOf set)
 Names set (OfTarget layer) = one.Names (bytes_at set 0) 0 layer
 
