@@ -7,5 +7,3 @@ mod bodies;
 mod control;
 #[cfg(test)]
 mod stack;
-#[cfg(test)]
-mod trees;

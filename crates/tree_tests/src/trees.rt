@@ -1,23 +1,15 @@
 // Trees, their tables, and one more block around a part.
 
-use crate::bodies::first_row;
+use crate::bodies::{first_row, has_rows, nop_like};
 use body_tree::{to_clauses, wrap};
-use cil_model::{
-    Block, Blocks, Body, Handler, Handlers, Instr, Instrs, Operand, Region, RegionKind, Tree,
-};
+use cil_model::{Block, Blocks, Body, Handler, Handlers, Instrs, Operand, RegionKind, Tree};
 use region_tree::code_of;
 use std::alloc::{AllocError, Global};
 
 fn code(alloc: Global, ops: &[u16]) -> Result<Block, AllocError> {
     let mut instrs = Instrs::new(alloc);
     for op in ops {
-        instrs.push(Instr {
-            op: *op,
-            operand: Operand::Nothing,
-            constrained: None,
-            prefixes: 0,
-            under: None,
-        })?;
+        instrs.push(nop_like(*op))?;
     }
     Ok(Block::Code(instrs))
 }
@@ -58,26 +50,6 @@ fn sample(alloc: Global) -> Result<Tree, AllocError> {
         max_stack: 8,
         init: false,
     })
-}
-
-fn is_row(region: &Region, row: [u32; 4]) -> bool {
-    region.try_from == row[0]
-        && region.try_to == row[1]
-        && region.handler_from == row[2]
-        && region.handler_to == row[3]
-}
-
-fn has_rows(body: &Body, rows: &[[u32; 4]]) -> bool {
-    let regions = body.regions.as_slice();
-    if regions.len() != rows.len() {
-        return false;
-    }
-    for k in 0..rows.len() {
-        if !is_row(&regions[k], rows[k]) {
-            return false;
-        }
-    }
-    true
 }
 
 fn leaves_to(body: &Body, at: usize, to: u32) -> bool {
