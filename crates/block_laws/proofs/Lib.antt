@@ -1,0 +1,6 @@
+mod NestedLaws
+mod BlockLaws
+mod SearchLaws
+mod GrowthLaws
+mod CodeLaws
+mod ClauseLaws
