@@ -1,0 +1,2 @@
+pub mod GenericLaws
+pub mod ParameterLaws
