@@ -3,7 +3,4 @@
 
 mod laws;
 
-pub use laws::{
-    grown_is_ranked, set_has_places, set_is_described, set_is_named,
-    set_is_numbered,
-};
+pub use laws::{grown_is_ranked, set_has_places, set_is_described, set_is_named, set_is_numbered};

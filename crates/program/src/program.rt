@@ -17,7 +17,6 @@ ghost use Rattle.program.specs.Program.{IsMade, PutsFile, FromBytes, FileAnswer,
 ghost use Rattle.program.specs.Replies.{Replied};
 
 use crate::reading::{FilesFault, read_files, refusal_of_number};
-use set_rewrite::rewrite_set;
 use body_splice::rewrite_body;
 use cil_base::limits::ASSEMBLY_LIMIT;
 use cil_base::{Bytes, Fault, Refusal};
@@ -26,6 +25,7 @@ use command_line::{
     text_of_words,
 };
 use outside_core::{Sink, Store, StoreRefusal};
+use set_rewrite::rewrite_set;
 use std::alloc::{AllocError, Global};
 
 /// What a command makes of its files: the bytes, and the text that says so.
