@@ -1,11 +1,12 @@
 -- What the coded types of the assemblies lead to, one assembly more.
-use Rattle.std.proofs.Common.{◌≡◌, ◌∙◌, ◌⊎◌, sym, ap, refl, inl, inr, ℕ, zero, suc, ◌+◌, List, [], ◌∷◌, ◌++◌, length}
+use Rattle.std.proofs.Common.{◌≡◌, ◌∙◌, ◌⊎◌, sym, ap, refl, inl, inr, arith, ℕ, zero, suc, ◌+◌, ◌<◌, List, [], ◌∷◌, ◌++◌, length, get_or, map}
 use Rattle.std.specs.Prelude.{Option, Some, None, slice_get}
 use Rattle.std.proofs.lemmas.List.{length-append}
-use Rattle.set_rows.specs.Sets.{Assemblies}
+use Rattle.set_rows.specs.Sets.{Assemblies, assembly_at}
 use Rattle.set_types.specs.declared.coded.CodedTypes.{CodedTypes}
 use Rattle.set_types.specs.CodedTypes.{coded_of}
 use Rattle.set_program.specs.Environment.{coded_in}
+use Rattle.members.specs.declared.assembly_members.AssemblyMembers.{AssemblyMembers}
 use Rattle.set_tables.specs.Held.{AreCoded}
 
 -- of the first assemblies
@@ -43,3 +44,13 @@ none_yet s = record { size = refl; leads = λ a c e. absurd cc }
 
 pub all_are : (s : Assemblies) (k : ℕ) (list : List CodedTypes) → k ≡ length s → CodedUpTo s k list → AreCoded s list
 all_are s k list e h = record { many = h.size ∙ e; leads = h.leads }
+
+-- ---- the rows of one assembly
+
+rows_of_one : (l : List AssemblyMembers) (a : ℕ) (m : AssemblyMembers) → a < length l → m ≡ get_or l a m → m.rows ≡ assembly_at (map (λ n. n.rows) l) a
+rows_of_one [] a m h e = absurd (omega (arith, h))
+rows_of_one (x ∷ xs) zero m h e = ap (λ (n : AssemblyMembers). n.rows) e
+rows_of_one (x ∷ xs) (suc a) m h e = rows_of_one xs a m (omega (arith, h)) e
+
+pub rows_there : (s : Assemblies) (l : List AssemblyMembers) (a : ℕ) (m : AssemblyMembers) → map (λ n. n.rows) l ≡ s → a < length l → m ≡ get_or l a m → m.rows ≡ assembly_at s a
+rows_there s l a m h below e = rows_of_one l a m below e ∙ ap (λ (x : Assemblies). assembly_at x a) h

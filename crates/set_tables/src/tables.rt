@@ -3,12 +3,16 @@ ghost use Rattle.std.specs.Prelude.{◌≡◌, ◌<◌, ◌^◌, length, IfOk};
 ghost use Rattle.set_types.specs.CodedTypes.{coded_of};
 ghost use Rattle.set_program.specs.Environment.{coded_in};
 ghost use Rattle.value_types.specs.ValueNames.{value_names};
+ghost use Rattle.set_rows.specs.Sets.{assembly_at};
+ghost use Rattle.members.specs.MemberRows.{row_owner};
 ghost use Rattle.member_table.specs.Members.{member};
+ghost use Rattle.member_table.specs.MemberRules.{member_is_taken};
 ghost use Rattle.set_tables.specs.Held.{AreCoded};
 
 use coded_tables::coded_types;
 use member_numbers::{MemberNumbers, member_table};
-use member_table::{MemberTable, Named};
+use member_table::{MemberTable, Named, member_is_taken};
+use members::AssemblyMembers;
 use set_names::DistinctNames;
 use set_program::Part;
 use set_types::CodedTypes;
@@ -103,6 +107,38 @@ impl<'a> SetTables<'a> {
         ensures { coded_of result.now ≡ coded_in self.now a }
     {
         &self.members.assemblies[a].coded
+    }
+
+    /// An assembly with its members by key.
+    #[tactic(auto, using(crate::proofs::HeldLaws::rows_there))]
+    fn assembly(&self, a: usize) -> &AssemblyMembers<'a>
+        requires { a < length self.now }
+        ensures rows { result.now.rows ≡ assembly_at self.now a }
+        ensures coded { coded_of result.now.coded ≡ coded_in self.now a }
+    {
+        &self.members.assemblies[a]
+    }
+
+    /// The TypeDef row that owns a row of Field, or of MethodDef.
+    pub fn owner(&self, a: usize, is_field: bool, row: u32) -> Option<u32>
+        requires { a < length self.now }
+        ensures { result ≡ row_owner (assembly_at self.now a) is_field row }
+    {
+        self.assembly(a).owner(is_field, row)
+    }
+
+    /// Whether an earlier field, or method, of its type has the name and signature of a row.
+    pub fn member_is_taken(
+        &self,
+        alloc: Global,
+        a: usize,
+        is_field: bool,
+        row: u32,
+    ) -> Result<bool, AllocError>
+        requires { a < length self.now }
+        ensures { IfOk result (λ b. b ≡ member_is_taken (assembly_at self.now a) (coded_in self.now a) is_field row) }
+    {
+        member_is_taken(alloc, self.assembly(a), is_field, row)
     }
 
     /// What a MemberRef row names.

@@ -1,0 +1,2 @@
+pub mod MemberTables
+pub mod PropertyMaps
