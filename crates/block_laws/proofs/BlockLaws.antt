@@ -80,7 +80,7 @@ handlers_more r from to at (h ∷ hs) rp all w =
     let first : LiesWhole r from end = handler_more r (own from to at h) rp (All-head (MayPrecede r) (own from to at h) (own_clauses from to end hs) all) w in
     subst (λ (n : ℕ). LiesWhole r from n) long (handlers_more r from to end hs rp (All-tail (MayPrecede r) (own from to at h) (own_clauses from to end hs) all) first)
 
-clauses_whole : (r : Region) (from to : ℕ) (h : HandlerPart) (hs : List HandlerPart) → HasParts r → All (MayPrecede r) (own_clauses from to to (h ∷ hs)) → LiesWhole r from (to + length (handlers_code (h ∷ hs)))
+pub clauses_whole : (r : Region) (from to : ℕ) (h : HandlerPart) (hs : List HandlerPart) → HasParts r → All (MayPrecede r) (own_clauses from to to (h ∷ hs)) → LiesWhole r from (to + length (handlers_code (h ∷ hs)))
 clauses_whole r from to h hs rp all =
     handlers_more r from to to (h ∷ hs) rp all (the_try r (own from to to h) rp (All-head (MayPrecede r) (own from to to h) (own_clauses from to (to + length h.part.code) hs) all))
 

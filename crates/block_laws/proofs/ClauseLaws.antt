@@ -45,7 +45,7 @@ one_moves f i h o w b r =
 
 -- ---- clauses
 
-clauses_joined : (xs ys : List Block) (q : ℕ) → clauses q (xs ++ ys) ≡ clauses q xs ++ clauses (q + length (code xs)) ys
+pub clauses_joined : (xs ys : List Block) (q : ℕ) → clauses q (xs ++ ys) ≡ clauses q xs ++ clauses (q + length (code xs)) ys
 clauses_joined [] ys q = ap (λ (n : ℕ). clauses n ys) (omega arith)
 clauses_joined (x ∷ xs) ys q =
     let long : q + length (part x).code + length (code xs) ≡ q + length (code (x ∷ xs)) = omega (arith, length-append (part x).code (code xs)) in
@@ -60,21 +60,21 @@ inner_joined (x ∷ xs) h q =
     ap (λ (l : List Region). (part_of x).clauses q ++ l) (inner_joined xs h (q + length (part_of x).code) ∙ ap (λ (n : ℕ). handlers_clauses (q + length (part_of x).code) (handler_parts xs) ++ (part_of h).clauses n) long)
     ∙ sym (append_assoc ((part_of x).clauses q) (handlers_clauses (q + length (part_of x).code) (handler_parts xs)) ((part_of h).clauses (q + length (all_code (x ∷ xs)))))
 
-abbrev own_row : (from to at : ℕ) → Handler → Region
+abbrev pub own_row : (from to at : ℕ) → Handler → Region
 own_row from to at h = record { kind = (handler_parted h).kind; try_from = from; try_to = to; handler_from = at; handler_to = at + length (part_of h).code }
 
-own_joined : (xs : List Handler) (h : Handler) (from to q : ℕ) → own_clauses from to q (handler_parts (xs ++ h ∷ [])) ≡ own_clauses from to q (handler_parts xs) ++ own_row from to (q + length (all_code xs)) h ∷ []
+pub own_joined : (xs : List Handler) (h : Handler) (from to q : ℕ) → own_clauses from to q (handler_parts (xs ++ h ∷ [])) ≡ own_clauses from to q (handler_parts xs) ++ own_row from to (q + length (all_code xs)) h ∷ []
 own_joined [] h from to q = ap (λ (n : ℕ). own_row from to n h ∷ []) (omega arith)
 own_joined (x ∷ xs) h from to q =
     let long : q + length (part_of x).code + length (all_code xs) ≡ q + length (all_code (x ∷ xs)) = omega (arith, length-append (part_of x).code (all_code xs)) in
     ap (λ (l : List Region). own_row from to q x ∷ l) (own_joined xs h from to (q + length (part_of x).code) ∙ ap (λ (n : ℕ). own_clauses from to (q + length (part_of x).code) (handler_parts xs) ++ own_row from to n h ∷ []) long)
 
 -- the clauses of blocks among which is a protected one
-abbrev around : (front inner back : List Block) → List Handler → ℕ → ℕ → ℕ → List Region
+abbrev pub around : (front inner back : List Block) → List Handler → ℕ → ℕ → ℕ → List Region
 around front inner back hs from to end =
     clauses 0 front ++ ((clauses from inner ++ (handlers_clauses to (handler_parts hs) ++ own_clauses from to to (handler_parts hs))) ++ clauses end back)
 
-clauses_around : (front inner back : List Block) (hs : List Handler) → clauses 0 (front ++ Guarded inner hs ∷ back) ≡ around front inner back hs (length (code front)) (length (code front) + length (code inner)) (length (code front) + length (code inner) + length (all_code hs))
+pub clauses_around : (front inner back : List Block) (hs : List Handler) → clauses 0 (front ++ Guarded inner hs ∷ back) ≡ around front inner back hs (length (code front)) (length (code front) + length (code inner)) (length (code front) + length (code inner) + length (all_code hs))
 clauses_around front inner back hs =
     let from : ℕ = length (code front) in
     let zero_more : 0 + length (code front) ≡ from = omega arith in
@@ -87,10 +87,10 @@ clauses_around front inner back hs =
 abbrev row_of : (from to at : ℕ) → HandlerPart → Region
 row_of from to at p = record { kind = p.kind; try_from = from; try_to = to; handler_from = at; handler_to = at + length p.part.code }
 
-handler_is : (kind : RegionKind) (own : List Block) → handler_parted (handler_of kind own) ≡ record { kind = kind; part = record { code = code own; clauses = λ q. clauses q own } }
+pub handler_is : (kind : RegionKind) (own : List Block) → handler_parted (handler_of kind own) ≡ record { kind = kind; part = record { code = code own; clauses = λ q. clauses q own } }
 handler_is kind own = fold_out-Handler Part HandlerPart block_part handler_part (handler_of kind own)
 
-new_handler : (kind : RegionKind) (front inner own back : List Block) (hs : List Handler) → clauses 0 (front ++ Guarded inner (hs ++ handler_of kind own ∷ []) ∷ back) ≡ clauses 0 front ++ ((clauses (length (code front)) inner ++ ((handlers_clauses (length (code front) + length (code inner)) (handler_parts hs) ++ clauses (length (code front) + length (code inner) + length (all_code hs)) own) ++ (own_clauses (length (code front)) (length (code front) + length (code inner)) (length (code front) + length (code inner)) (handler_parts hs) ++ clause_behind kind front inner hs own ∷ []))) ++ clauses (length (code front) + length (code inner) + length (all_code hs) + length (code own)) back)
+pub new_handler : (kind : RegionKind) (front inner own back : List Block) (hs : List Handler) → clauses 0 (front ++ Guarded inner (hs ++ handler_of kind own ∷ []) ∷ back) ≡ clauses 0 front ++ ((clauses (length (code front)) inner ++ ((handlers_clauses (length (code front) + length (code inner)) (handler_parts hs) ++ clauses (length (code front) + length (code inner) + length (all_code hs)) own) ++ (own_clauses (length (code front)) (length (code front) + length (code inner)) (length (code front) + length (code inner)) (handler_parts hs) ++ clause_behind kind front inner hs own ∷ []))) ++ clauses (length (code front) + length (code inner) + length (all_code hs) + length (code own)) back)
 new_handler kind front inner own back hs =
     let h : Handler = handler_of kind own in
     let from : ℕ = length (code front) in
@@ -124,7 +124,7 @@ another_keeps_clauses kind front inner own back hs =
     (sym (new_handler kind front inner own back hs))
     (one_moves f i h o w b r)
 
-no_handler_clauses : (front inner back : List Block) → clauses 0 (front ++ (inner ++ back)) ≡ clauses 0 (front ++ Guarded inner [] ∷ back)
+pub no_handler_clauses : (front inner back : List Block) → clauses 0 (front ++ (inner ++ back)) ≡ clauses 0 (front ++ Guarded inner [] ∷ back)
 no_handler_clauses front inner back =
     let from : ℕ = length (code front) in
     let zero_more : 0 + length (code front) ≡ from = omega arith in

@@ -85,10 +85,10 @@ guarded_is inner hs = ap guarding (sym (rolls-Guarded inner hs)) ∙ fold-roll-B
 parts_with : (front inner back : List Block) (hs : List Handler) → map guarding (front ++ Guarded inner hs ∷ back) ≡ map guarding front ++ block (map guarding inner) (map handler_guarded hs) ∷ map guarding back
 parts_with front inner back hs = mapped guarding front (Guarded inner hs ∷ back) ∙ ap (λ (g : Guarding). map guarding front ++ g ∷ map guarding back) (guarded_is inner hs)
 
-abbrev clause_at : RegionKind → (try_from try_to handler_from handler_to : ℕ) → Region
+abbrev pub clause_at : RegionKind → (try_from try_to handler_from handler_to : ℕ) → Region
 clause_at kind a b c d = record { kind = kind; try_from = a; try_to = b; handler_from = c; handler_to = d }
 
-one_clause : (k : RegionKind) (a b c d w x y z : ℕ) → a ≡ w → b ≡ x → c ≡ y → d ≡ z → clause_at k a b c d ≡ clause_at k w x y z
+pub one_clause : (k : RegionKind) (a b c d w x y z : ℕ) → a ≡ w → b ≡ x → c ≡ y → d ≡ z → clause_at k a b c d ≡ clause_at k w x y z
 one_clause k a b c d w x y z e f g h =
     ap (λ (n : ℕ). clause_at k n b c d) e ∙ ap (λ (n : ℕ). clause_at k w n c d) f ∙ ap (λ (n : ℕ). clause_at k w x n d) g ∙ ap (λ (n : ℕ). clause_at k w x y n) h
 

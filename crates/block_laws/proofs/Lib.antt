@@ -1,6 +1,6 @@
-mod NestedLaws
-mod BlockLaws
-mod SearchLaws
-mod GrowthLaws
-mod CodeLaws
-mod ClauseLaws
+pub mod NestedLaws
+pub mod BlockLaws
+pub mod SearchLaws
+pub mod GrowthLaws
+pub mod CodeLaws
+pub mod ClauseLaws

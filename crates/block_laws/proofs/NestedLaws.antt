@@ -51,7 +51,7 @@ ranges_apart a b c d x y e = go (leb b c) refl
     go true f = left (leb-true b c f)
     go false f = right (grind (arith, nat_tests))
 
-nested : (d r : Region) → is_nested d r ≡ true → Nested d r
+pub nested : (d r : Region) → is_nested d r ≡ true → Nested d r
 nested d r e =
     elim (or_cases (lies_in d.try_from d.try_to r.try_from r.try_to && lies_in d.handler_from d.handler_to r.try_from r.try_to) (lies_in d.try_from d.try_to r.handler_from r.handler_to && lies_in d.handler_from d.handler_to r.handler_from r.handler_to) e) [
       | inl x ↦ within_try (both_in d r.try_from r.try_to x)

@@ -2,4 +2,3 @@ pub mod GuardLaws
 pub mod TableLaws
 pub mod CopyLaws
 pub mod DivisionLaws
-pub mod BuildLaws

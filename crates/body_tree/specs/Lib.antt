@@ -1,4 +1,3 @@
 pub mod Alike
-pub mod Between
 pub mod Copies
 pub mod Division

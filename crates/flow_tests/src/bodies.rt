@@ -30,7 +30,7 @@ fn tiny(alloc: Global, code: &[u8]) -> Result<Vec<u8>, AllocError> {
     Ok(bytes)
 }
 
-fn decoded(alloc: Global, bytes: &[u8]) -> Option<Body>
+pub fn decoded(alloc: Global, bytes: &[u8]) -> Option<Body>
     ensures { IfSome result (λ body. length body.instrs < 2 ^ 32) }
 {
     if bytes.len() > 1000 {

@@ -56,6 +56,16 @@ fn regions_lie_in_one_another_or_apart(rt: HostRuntime) {
     assert!(rt; all);
 }
 
+/// A try without code, a handler without code, and a second handler without code.
+#[test]
+fn trys_and_handlers_have_instructions(rt: HostRuntime) {
+    let alloc = rt.alloc();
+    let empty_try = lie_badly(alloc, &[[0, 0, 0, 2]], 0);
+    let empty_handler = lie_badly(alloc, &[[2, 5, 5, 5]], 2);
+    let second_handler = lie_badly(alloc, &[[1, 3, 3, 5], [1, 3, 5, 5]], 1);
+    assert!(rt; empty_try && empty_handler && second_handler);
+}
+
 #[test]
 fn nested_and_separate_regions_are_accepted(rt: HostRuntime) {
     let alloc = rt.alloc();

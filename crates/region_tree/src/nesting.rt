@@ -1,7 +1,7 @@
 // How the regions of a table lie to each other.
 ghost use Rattle.std.specs.Prelude.{◌≡◌, ◌<◌, ◌≤◌, ◌&&◌, ◌||◌, length, IfOk};
 ghost use Rattle.std.specs.List.{list_any};
-ghost use Rattle.region_tree.specs.Nesting.{are_apart, breaks_nesting, deepest_around, depths_of, handler_start, handlers_meet, have_same_try, is_misplaced, is_nested, lies_in, parts_meet, ranges_meet};
+ghost use Rattle.region_tree.specs.Nesting.{are_apart, breaks_nesting, deepest_around, depths_of, handler_start, handlers_meet, has_parts, have_same_try, is_misplaced, is_nested, lies_in, parts_meet, ranges_meet};
 
 use cil_base::limits::NESTING_LIMIT;
 use cil_model::Region;
@@ -99,13 +99,21 @@ fn handler_start(earlier: &[Region], region: &Region) -> u32
     start
 }
 
-/// Whether a region may not lie so to those before it in the table, or lies too deep.
+fn has_parts(region: &Region) -> bool
+    ensures { result ≡ has_parts region.now }
+{
+    region.try_from < region.try_to && region.handler_from < region.handler_to
+}
+
+/// Whether a region may not lie so to those before it in the table, lies too deep, or has no code in its
+/// try or its handler.
 pub(crate) fn breaks_nesting(earlier: &[Region], region: &Region, depth: usize) -> bool
     ensures { result ≡ breaks_nesting earlier.now region.now depth }
 {
     is_misplaced_behind(earlier, region)
         || region.handler_from != handler_start(earlier, region)
         || depth > NESTING_LIMIT as usize
+        || !has_parts(region)
 }
 
 /// The greatest depth of those regions in which one is nested.

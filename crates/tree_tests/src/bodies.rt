@@ -1,4 +1,5 @@
 // Bodies for the tests.
+ghost use Rattle.std.specs.Prelude.{◌<◌};
 
 use cil_base::{Place, Token, U32s};
 use cil_model::{Body, Instr, Instrs, Operand, Region, RegionKind, Regions};
@@ -63,14 +64,31 @@ pub fn body_with(alloc: Global, count: u16, rows: &[[u32; 4]]) -> Result<Body, A
     })
 }
 
-/// Eight instructions, of which those at 2, 4 and 6 leave to the ret at 7, with catches.
-pub fn body_that_leaves(alloc: Global, rows: &[[u32; 4]]) -> Result<Body, AllocError> {
+/// Whether a try or a handler ends behind an instruction.
+fn ends_part(rows: &[[u32; 4]], at: u32) -> bool
+    requires { at < 1000 }
+{
+    for row in rows {
+        if row[1] == at + 1 || row[3] == at + 1 {
+            return true;
+        }
+    }
+    false
+}
+
+/// So many instructions with catches. Each try and each handler ends by a `leave` to the `ret` that ends
+/// the code, and the others are nops.
+pub fn body_that_leaves(alloc: Global, count: u16, rows: &[[u32; 4]]) -> Result<Body, AllocError>
+    requires some { 0 < count }
+    requires few { count < 1000 }
+{
     let mut body = body_with(alloc, 0, rows)?;
-    for k in 0..7u8 {
+    let last = (count - 1) as u32;
+    for k in 0..last {
         let mut i = nop_like(0);
-        if k == 2 || k == 4 || k == 6 {
+        if ends_part(rows, k) {
             i.op = 0xDD;
-            i.operand = Operand::Target(7);
+            i.operand = Operand::Target(last);
         }
         body.instrs.push(i)?;
     }

@@ -1,0 +1,12 @@
+pub mod OrderLaws
+pub mod PlaceLaws
+pub mod GrowthLaws
+pub mod SpanLaws
+pub mod StepLaws
+pub mod RowLaws
+pub mod AddLaws
+pub mod RunLaws
+pub mod MoveLaws
+pub mod MarkLaws
+pub mod PieceLaws
+pub mod FitLaws
