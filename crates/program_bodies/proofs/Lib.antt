@@ -1,0 +1,4 @@
+pub mod FilledLaws
+pub mod TakenLaws
+pub mod OnceLaws
+pub mod ProgramLaws
