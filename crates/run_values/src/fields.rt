@@ -45,7 +45,7 @@ fn types_of_instance_fields(
 }
 
 #[tactic(auto, unfolding(cil_semantics::specs::Lookups::contract_exception))]
-fn fields_of(program: &Program, k: u32) -> &[u32]
+pub(crate) fn fields_of(program: &Program, k: u32) -> &[u32]
     ensures { result.now ≡ (type_of program.now k).fields }
 {
     match program.types.get(k as usize) {

@@ -52,11 +52,11 @@ pub(crate) fn is_instance(program: &Program, field: u32) -> bool
 }
 
 // How many instance fields a type has itself.
-fn count_own(program: &Program, fields: &U32s) -> usize
+pub(crate) fn count_own(program: &Program, fields: &[u32]) -> usize
     ensures { result ≡ length (filter (is_instance_field program.now) fields.now) }
 {
     let mut count: usize = 0;
-    for field in fields.as_slice() {
+    for field in fields {
         if is_instance(program, *field) {
             count += 1;
         }
@@ -94,7 +94,7 @@ fn of_known(program: &Program, k: u32) -> Storage
     match desc.kind {
         Kind::Class => Storage::Reference,
         Kind::Interface => Storage::Reference,
-        Kind::Struct => Storage::Fields(count_own(program, &desc.fields)),
+        Kind::Struct => Storage::Fields(count_own(program, desc.fields.as_slice())),
         Kind::Enumeration => of_enumeration(program, &desc.fields),
         Kind::Delegate => Storage::Reference,
     }
