@@ -1,6 +1,5 @@
 -- A checked conversion takes its operand from the stack.
-use Rattle.std.proofs.Common.{◌≡◌, ◌∙◌, ap, sym, List, ◌∷◌, Bool, ℤ}
-use Rattle.std.specs.Prelude.{Option}
+use Rattle.std.proofs.Common.{◌≡◌, ◌∙◌, ap, sym, List, ◌∷◌, Bool}
 use Rattle.cil_model.specs.declared.value.Value.{Value}
 use Rattle.cil_semantics.specs.Acts as acts
 use Rattle.cil_semantics.specs.declared.Local.{Local}

@@ -1,11 +1,10 @@
 -- What the acts that the arms answer mean to the machine (own).
-use Rattle.std.specs.Prelude.{ℕ, List, [], ◌∷◌, replicate, Option, Some, None, IfOk, ◌≡◌}
+use Rattle.std.specs.Prelude.{ℕ, [], ◌∷◌, replicate}
 use Rattle.cil_model.specs.declared.ty.Ty.{Ty}
 use Rattle.cil_model.specs.declared.ty.Ty.TheVariants as ty
 use Rattle.cil_model.specs.declared.value.Value.{Value}
 use Rattle.cil_semantics.specs.Acts as acts
 use Rattle.cil_semantics.specs.declared.Object.{Object}
-use Rattle.cil_semantics.specs.declared.Cell.{Cell}
 use Rattle.cil_semantics.specs.declared.Local.{Local}
 use Rattle.run_numbers.specs.Answers.{exception_name}
 use Rattle.frame_acts.specs.declared.wanted.Call.{Call}
