@@ -5,6 +5,7 @@ ghost use Rattle.set_program.specs.Environment.{coded_in};
 ghost use Rattle.value_types.specs.ValueNames.{value_names};
 ghost use Rattle.set_rows.specs.Sets.{assembly_at};
 ghost use Rattle.members.specs.MemberRows.{row_owner};
+ghost use Rattle.member_table.specs.Environments.{AreOf};
 ghost use Rattle.member_table.specs.Members.{member};
 ghost use Rattle.member_table.specs.MemberRules.{member_is_taken};
 ghost use Rattle.set_tables.specs.Held.{AreCoded};
@@ -87,6 +88,13 @@ impl<'a> SetTables<'a> {
         self.set
     }
 
+    /// How many assemblies there are.
+    pub fn len(&self) -> u32
+        ensures { result ≡ length self.now }
+    {
+        self.set.len() as u32
+    }
+
     /// Its types by number.
     pub fn types(&self) -> &TypeTable<'a>
         ensures { result.now ≡ self.now }
@@ -99,6 +107,13 @@ impl<'a> SetTables<'a> {
         ensures { result.now ≡ self.now }
     {
         &self.numbers
+    }
+
+    /// Its assemblies with their members, and its types with their bases.
+    pub fn members(&self) -> &MemberTable<'a>
+        ensures { AreOf self.now result.now.assemblies.items result.now.types.items }
+    {
+        &self.members
     }
 
     /// What the coded types of an assembly lead to.

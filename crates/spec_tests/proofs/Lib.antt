@@ -1,0 +1,3 @@
+pub mod StrayLaws
+pub mod UseLaws
+pub mod InstanceLaws
