@@ -1,0 +1,4 @@
+pub mod FailLaws
+pub mod RowLaws
+pub mod TellLaws
+pub mod RewriteLaws
