@@ -7,9 +7,9 @@ use Rattle.cil_base.proofs.LayerLaws.{layers_are_one}
 use Rattle.command_line.specs.declared.words.Command.{Command}
 use Rattle.command_line.specs.declared.words.Command.TheVariants as commands
 use Rattle.body_splice.specs.Rewrite as body
+use Rattle.set_check.specs.Sets.{bytes_at}
 use Rattle.set_rewrite.specs.Sets as rewriting
-use Rattle.set_rewrite.specs.Sets.{bytes_at}
-use Rattle.set_rewrite.proofs.SetLaws.{names_broken, names_one}
+use Rattle.set_rewrite.proofs.RewriteLaws.{names_broken, names_one}
 use Rattle.program.specs.Layers.{InSome, IsInnerRefusal, IsInnerEither}
 use Rattle.program.specs.Reading.{Reading, Whole, Missing, Passes}
 use Rattle.program.specs.Program.{IsRefusal, IsEither}

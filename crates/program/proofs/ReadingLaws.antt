@@ -8,7 +8,7 @@ use Rattle.cil_base.specs.declared.limits.TheConstants.{FILE_LIMIT, SET_LIMIT}
 use Rattle.cil_base.specs.declared.refusal.Refusal.{Refusal}
 use Rattle.outside_core.specs.Store.{Files, SameFiles}
 use Rattle.command_line.specs.Options.{texts}
-use Rattle.set_rewrite.specs.Sets.{bytes_at}
+use Rattle.set_check.specs.Sets.{bytes_at}
 use Rattle.program.specs.Reading.{Reading, Whole, Missing, Passes, behind, of_file, read_from, FileRead, FilesRead}
 use Rattle.program.specs.declared.reading.FilesFault.{FilesFault}
 use Rattle.program.specs.declared.reading.FilesFault.TheVariants.{Failed, Limit, Memory}

@@ -4,8 +4,8 @@ use Rattle.cil_base.specs.declared.refusal.Refusal.{Refusal}
 use Rattle.command_line.specs.declared.words.Command.{Command}
 use Rattle.command_line.specs.declared.words.Command.TheVariants as commands
 use Rattle.body_splice.specs.Rewrite as body
+use Rattle.set_check.specs.Sets.{bytes_at}
 use Rattle.set_rewrite.specs.Sets as rewriting
-use Rattle.set_rewrite.specs.Sets.{bytes_at}
 
 -- these files are refused by this: the first broken rule
 abbrev pub IsInnerRefusal : Command → List (List ℕ) → Refusal → Type 0

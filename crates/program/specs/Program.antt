@@ -9,7 +9,7 @@ use Rattle.command_line.specs.declared.words.Command.TheVariants as commands
 use Rattle.command_line.specs.Words.{wrong_word, IsCommand}
 use Rattle.body_splice.specs.Rewrite.{IsRewriting}
 use Rattle.assembly_rewrite.specs.Rewrite.{KeepsRows}
-use Rattle.set_rewrite.specs.Sets.{bytes_at}
+use Rattle.set_check.specs.Sets.{bytes_at}
 use Rattle.program.specs.Layers.{IsInnerRefusal, KeepsInnerRules, IsInnerEither}
 use Rattle.program.specs.Reading.{Reading, Whole, Missing, Passes, reading, IsNamed}
 

@@ -7,7 +7,7 @@ use Rattle.cil_base.specs.declared.rule.Rule.TheVariants.{L1, L2}
 use Rattle.cil_base.specs.declared.refusal.Refusal.{Refusal}
 use Rattle.cil_base.specs.Refusals.{limit_refusal}
 use Rattle.outside_core.specs.Store.{Files}
-use Rattle.set_rewrite.specs.Sets.{bytes_at}
+use Rattle.set_check.specs.Sets.{bytes_at}
 use Rattle.program.specs.declared.reading.FilesFault.{FilesFault}
 use Rattle.program.specs.declared.reading.FilesFault.TheVariants.{Failed, Limit, Memory}
 

@@ -1,80 +1,38 @@
 -- What `rewrite` makes of a set of assemblies (ECMA-335, II.6.1), TARGET first: TARGET written anew.
-use Rattle.std.specs.Prelude.{ℕ, ◌+◌, ◌<◌, List, [], ◌∷◌, ◌++◌, map, flat_map, length, get_or}
-use Rattle.std.specs.List.{range_with_len}
+use Rattle.std.specs.Prelude.{ℕ, List, [], ◌∷◌, ◌++◌, map, length}
 use Rattle.cil_base.specs.declared.refusal.Refusal.{Refusal}
-use Rattle.cil_base.specs.Refusals.{First, InLayers, NoneOf}
-use Rattle.pe_image.specs.Images.{File}
-use Rattle.pe_image.specs.Cli.{metadata_of}
-use Rattle.assembly.specs.Assemblies as reading
-use Rattle.set_rows.specs.Sets.{Assemblies, assembly_of}
-use Rattle.set_blobs.specs.BadBlobs.{BreaksBlobs}
+use Rattle.cil_base.specs.Refusals.{InLayers, NoneOf}
+use Rattle.set_check.specs.Sets as checked
+use Rattle.set_check.specs.Sets.{bytes_at}
 use Rattle.assembly_rewrite.specs.Rewrite as one
 
--- the bytes of an assembly, by its number
-abbrev pub bytes_at : List (List ℕ) → ℕ → List ℕ
-bytes_at set a = get_or set a []
-
--- these files, with numbers from one on
-abbrev pub files_from : ℕ → List (List ℕ) → List File
-files_from a [] = []
-files_from a (bytes ∷ more) = record { bytes = bytes; assembly = a } ∷ files_from (a + 1) more
-
-abbrev pub bytes_of : List File → List (List ℕ)
-bytes_of files = map (λ file. file.bytes) files
-
--- ---- the layers of rules
-
--- the rules on the bytes of one assembly; those on blobs, and Z1, on all; then those on TARGET as it is written
+-- the rules on the set; then those on TARGET as it is written
 pub data Layer : Type 0 where
-  Reading : ℕ → reading.Layer → Layer
-  Signatures : Layer
-  Contracts : Layer
+  OfSet : checked.Layer → Layer
   OfTarget : one.Layer → Layer
 
-abbrev pub reading_layers : ℕ → List Layer
-reading_layers a = map (Reading a) reading.layers
-
--- of so many assemblies from one on
-abbrev pub all_reading_layers : ℕ → ℕ → List Layer
-all_reading_layers a n = flat_map reading_layers (range_with_len a n)
-
--- what is tried where the rules on the set's rows are kept
+-- what is tried where the rules on the set are kept
 abbrev pub writing_layers : List Layer
-writing_layers = Contracts ∷ OfTarget one.Limits ∷ OfTarget one.Room ∷ []
-
-abbrev pub later_layers : List Layer
-later_layers = Signatures ∷ writing_layers
+writing_layers = OfTarget one.Limits ∷ OfTarget one.Room ∷ []
 
 -- of a set of so many, in the order in which they are tried
 abbrev pub layers : ℕ → List Layer
-layers n = all_reading_layers 0 n ++ later_layers
-
--- the assemblies as their tables and heaps
-abbrev pub assemblies_of : List (List ℕ) → Assemblies
-assemblies_of set = map assembly_of set
-
--- some assembly of the set has contracts, which aren't rewritten yet
-abbrev pub IsContractOf : List (List ℕ) → Refusal → Type 0
-IsContractOf set r = (r.assembly < length set) × one.IsContract (metadata_of (bytes_at set r.assembly)) r.assembly r
+layers n = map OfSet (checked.layers n) ++ writing_layers
 
 -- a rule that the set breaks, and where
 abbrev pub Breaks : List (List ℕ) → Layer → Refusal → Type 0
-Breaks set (Reading a layer) = reading.Breaks (bytes_at set a) a layer
-Breaks set Signatures = BreaksBlobs (assemblies_of set)
-Breaks set Contracts = IsContractOf set
+Breaks set (OfSet layer) = checked.Breaks set layer
 Breaks set (OfTarget layer) = one.Breaks (bytes_at set 0) 0 layer
 
 -- which refusals may be named where the layer is the first that is broken
 abbrev pub Names : List (List ℕ) → Layer → Refusal → Type 0
-Names set (Reading a layer) = reading.Names (bytes_at set a) a layer
-Names set Signatures = First (BreaksBlobs (assemblies_of set))
-Names set Contracts = First (IsContractOf set)
+Names set (OfSet layer) = checked.Names set layer
 Names set (OfTarget layer) = one.Names (bytes_at set 0) 0 layer
 
 -- which two of a layer may both be named
 abbrev pub MayBoth : List (List ℕ) → Layer → Refusal → Refusal → Type 0
+MayBoth set (OfSet layer) r s = ⊥
 MayBoth set (OfTarget layer) r s = one.MayBoth (bytes_at set 0) layer r s
-MayBoth set layer r s = ⊥
 
 -- the first broken rule of the set
 abbrev pub IsSetRefusal : List (List ℕ) → Refusal → Type 0

@@ -3,8 +3,8 @@ use Rattle.std.specs.Prelude.{OnOk}
 use Rattle.cil_base.specs.Refusals.{OnRefused}
 use Rattle.body_splice.specs.Rewrite.{IsBodyRefusal, KeepsBodyRules}
 use Rattle.command_line.specs.declared.words.Command.{Command}
-use Rattle.set_rewrite.specs.Sets.{bytes_at}
-use Rattle.set_rewrite.proofs.SetLaws.{bytes_there}
+use Rattle.set_check.specs.Sets.{bytes_at}
+use Rattle.set_check.proofs.SetLaws.{bytes_there}
 use Rattle.program.specs.Layers.{IsInnerRefusal, KeepsInnerRules}
 use Rattle.program.proofs.program.make_output.Goals as goal
 

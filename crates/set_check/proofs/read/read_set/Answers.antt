@@ -1,7 +1,7 @@
 use Rattle.std.proofs.Common.{◌≡◌, ◌∙◌, length, arith}
 use Rattle.cil_base.proofs.RefusalLaws.{IfRefused-weaker}
-use Rattle.set_rewrite.proofs.SetLaws.{all_read, so_many, read_more, unread_more, bytes_there}
-use Rattle.set_rewrite.proofs.set.read_set.Goals as goal
+use Rattle.set_check.proofs.SetLaws.{all_read, so_many, read_more, unread_more, bytes_there}
+use Rattle.set_check.proofs.read.read_set.Goals as goal
 
 pub read_more-requires-clause-few : goal.read_more-requires-clause-few
 read_more-requires-clause-few c =

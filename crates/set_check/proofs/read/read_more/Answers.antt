@@ -1,6 +1,6 @@
 use Rattle.std.proofs.Common.{◌≡◌, subst, length, ℕ, arith}
 use Rattle.assembly.specs.Assemblies.{IsReadable}
-use Rattle.set_rewrite.proofs.set.read_more.Goals as goal
+use Rattle.set_check.proofs.read.read_more.Goals as goal
 
 pub returns-clause-accepted : goal.returns-clause-accepted
 returns-clause-accepted c =

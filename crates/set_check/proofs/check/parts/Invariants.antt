@@ -1,6 +1,6 @@
 use Rattle.std.proofs.Common.{◌≡◌, ◌++◌, drop}
-use Rattle.set_rewrite.specs.Sets.{assemblies_of, bytes_of}
-use Rattle.set_rewrite.proofs.set.parts.Given as goal
+use Rattle.set_check.specs.Sets.{assemblies_of, bytes_of}
+use Rattle.set_check.proofs.check.parts.Given as goal
 
 -- what is left of the assemblies
 abbrev pub invariant-loop-assembly : goal.invariant-loop-assembly

@@ -1,5 +1,6 @@
 -- Sets of assemblies: what is read of each, and the first that has contracts.
-use Rattle.std.proofs.Common.{◌≡◌, ◌⊎◌, ℕ, zero, suc, ◌+◌, ◌<◌, ◌≤◌, false, List, [], ◌∷◌, ◌++◌, length, get_or, take, refl, sym, ap, ◌∙◌, subst, inl, inr, arith, add-one}
+use Rattle.std.proofs.Common.{◌≡◌, ◌⊎◌, ℕ, zero, suc, ◌+◌, ◌<◌, ◌≤◌, false, List, [], ◌∷◌, ◌++◌, length, get_or, take, Option, Some, None, refl, sym, ap, ◌∙◌, subst, inl, inr, arith, add-one}
+use Rattle.std.specs.Prelude.{slice_get}
 use Rattle.std.proofs.lemmas.Bool.{cases_lt}
 use Rattle.std.proofs.lemmas.List.{length-map, length-take-le, take_all, get_or_default}
 use Rattle.cil_base.specs.declared.refusal.Refusal.{Refusal}
@@ -11,10 +12,11 @@ use Rattle.cil_base.proofs.RefusalLaws.{not_less}
 use Rattle.pe_image.specs.Images.{File}
 use Rattle.pe_image.specs.Cli.{metadata_of}
 use Rattle.assembly.specs.Assemblies as reading
-use Rattle.assembly_rewrite.specs.Rewrite as one
+use Rattle.set_program.specs.Files as files_of_set
+use Rattle.set_rows.specs.Sets.{Assemblies, assembly_of}
+use Rattle.assembly_rewrite.specs.Rewrite.{IsContract}
 use Rattle.set_blobs.specs.BadBlobs.{BreaksBlobs}
-use Rattle.set_rewrite.specs.Sets.{bytes_at, bytes_of, files_from, reading_layers, all_reading_layers, writing_layers, later_layers, Layer, Reading, Signatures, Contracts, OfTarget, Breaks, Names, MayBoth, IsContractOf, assemblies_of}
-use Rattle.assembly_rewrite.proofs.RewriteLaws as one_laws
+use Rattle.set_check.specs.Sets.{bytes_at, bytes_of, files_from, reading_layers, all_reading_layers, later_layers, Layer, Breaks, Names, IsContractOf, IsSound, IsUnsound, assemblies_of}
 
 -- ---- layers of reading
 
@@ -121,7 +123,7 @@ read_all all k set e h = h.so_far ∙ ap (files_from 0) (ap (λ (n : ℕ). take 
 
 module _ (set : List (List ℕ)) where
   abbrev pub Has : ℕ → Refusal → Type 0
-  Has a = one.IsContract (metadata_of (bytes_at set a)) a
+  Has a = IsContract (metadata_of (bytes_at set a)) a
 
   abbrev pub NoneUpTo : ℕ → Type 0
   NoneUpTo n = (j : ℕ) → j < n → NoneBroken (Has j)
@@ -149,38 +151,65 @@ module _ (set : List (List ℕ)) where
   pub none_of_all : NoneUpTo (length set) → NoneBroken (IsContractOf set)
   none_of_all none r x = none r.assembly x.0 r x.1
 
-  -- ---- what is refused behind them
-
-  pub refused_later : 0 < length set → NoneBroken (IsContractOf set) → (r : Refusal) → one.IsRewriteRefusal (bytes_at set 0) 0 r → InLayers (Breaks set) (Names set) writing_layers r
-  refused_later some none r (inl h) =
-      let number : 0 ≡ r.assembly = sym h.broken.assembly_is in
-      absurd (none r (omega (arith, some, number), subst (λ (j : ℕ). Has j r) number h.broken))
-  refused_later some none r (inr h) = inr (none, h.1)
-
-  pub kept_later : NoneBroken (IsContractOf set) → one.KeepsRewriteRules (bytes_at set 0) 0 → NoneOf (Breaks set) writing_layers
-  kept_later none h = (none, h.1)
-
 -- ---- which refusals are named
 
 pub names_broken : (set : List (List ℕ)) (l : Layer) (r : Refusal) → Names set l r → Breaks set l r
-names_broken set (Reading a l) r h = h.broken
-names_broken set Signatures r h = h.broken
-names_broken set Contracts r h = h.broken
-names_broken set (OfTarget l) r h = one_laws.names_broken (bytes_at set 0) 0 l r h
+names_broken set l r h = h.broken
 
-pub names_one : (set : List (List ℕ)) (l : Layer) (r s : Refusal) → Names set l r → Names set l s → (s ≡ r) ⊎ MayBoth set l s r
-names_one set (Reading a l) r s h k = inl (first_is_one (reading.Breaks (bytes_at set a) a l) r s h k)
-names_one set Signatures r s h k = inl (first_is_one (BreaksBlobs (assemblies_of set)) r s h k)
-names_one set Contracts r s h k = inl (first_is_one (IsContractOf set) r s h k)
-names_one set (OfTarget l) r s h k = one_laws.names_one (bytes_at set 0) 0 l r s h k
+pub names_one : (set : List (List ℕ)) (l : Layer) (r s : Refusal) → Names set l r → Names set l s → s ≡ r
+names_one set l r s h k = first_is_one (Breaks set l) r s h k
 
--- ---- the rules on blobs, and what comes behind them
+-- ---- the rules behind those on the bytes of each
 
-abbrev pub AreSound : List (List ℕ) → Type 0
-AreSound set = NoneBroken (BreaksBlobs (assemblies_of set))
+abbrev pub AreInGrammar : List (List ℕ) → Type 0
+AreInGrammar set = NoneBroken (BreaksBlobs (assemblies_of set))
 
-pub refused_behind : (set : List (List ℕ)) (r : Refusal) → AreSound set → InLayers (Breaks set) (Names set) writing_layers r → InLayers (Breaks set) (Names set) later_layers r
-refused_behind set r sound h = inr (sound, h)
+pub refused_later : (set : List (List ℕ)) (r : Refusal) → AreInGrammar set → First (IsContractOf set) r → InLayers (Breaks set) (Names set) later_layers r
+refused_later set r sound h = inr (sound, inl h)
 
-pub kept_behind : (set : List (List ℕ)) → AreSound set → NoneOf (Breaks set) writing_layers → NoneOf (Breaks set) later_layers
-kept_behind set sound h = (sound, h)
+pub kept_later : (set : List (List ℕ)) → AreInGrammar set → NoneBroken (IsContractOf set) → NoneOf (Breaks set) later_layers
+kept_later set sound none = (sound, (none, tt))
+
+-- the bytes of what was read are those of the files
+pub same_bytes : (all : List (List ℕ)) (set slice : List File) → set ≡ files_from 0 all → slice ≡ set → bytes_of slice ≡ all
+same_bytes all set slice e s = ap bytes_of (s ∙ e) ∙ bytes_back 0 all
+
+-- ---- all layers
+
+pub unread_unsound : (all : List (List ℕ)) (r : Refusal) → InLayers (Breaks all) (Names all) (all_reading_layers 0 (length all)) r → IsUnsound all r
+unread_unsound all r h = named_before (Breaks all) (Names all) (all_reading_layers 0 (length all)) later_layers r h
+
+pub unsound_later : (all bytes : List (List ℕ)) (r : Refusal) → bytes ≡ all → NoneOf (Breaks all) (all_reading_layers 0 (length all)) → InLayers (Breaks bytes) (Names bytes) later_layers r → IsUnsound all r
+unsound_later all bytes r e read h =
+    named_behind (Breaks all) (Names all) (all_reading_layers 0 (length all)) later_layers r read
+    (subst (λ (l : List (List ℕ)). InLayers (Breaks l) (Names l) later_layers r) e h)
+
+pub sound_joined : (all bytes : List (List ℕ)) → bytes ≡ all → NoneOf (Breaks all) (all_reading_layers 0 (length all)) → NoneOf (Breaks bytes) later_layers → IsSound all
+sound_joined all bytes e read h =
+    none_joined (Breaks all) (Names all) (all_reading_layers 0 (length all)) later_layers read
+    (subst (λ (l : List (List ℕ)). NoneOf (Breaks l) later_layers) e h)
+
+-- ---- as a program's assemblies
+
+pub same_assemblies : (files : List File) → files_of_set.assemblies_of files ≡ assemblies_of (bytes_of files)
+same_assemblies [] = refl
+same_assemblies (f ∷ fs) = ap (λ (l : Assemblies). assembly_of f.bytes ∷ l) (same_assemblies fs)
+
+abbrev number_or : ℕ → Option File → ℕ
+number_or n None = n
+number_or n (Some f) = f.assembly
+
+places_numbered : (a : ℕ) (all : List (List ℕ)) (k : ℕ) (f : File) → slice_get (files_from a all) k ≡ Some f → f.assembly ≡ a + k
+places_numbered a [] k f e = absurd cc
+places_numbered a (x ∷ all) zero f e =
+    let here : a ≡ f.assembly = ap (number_or 0) e in
+    omega (arith, here)
+places_numbered a (x ∷ all) (suc k) f e =
+    let on : f.assembly ≡ a + 1 + k = places_numbered (a + 1) all k f e in
+    omega (arith, on)
+
+pub are_numbered : (files : List File) → files ≡ files_from 0 (bytes_of files) → files_of_set.AreNumbered files
+are_numbered files e k f h = places_numbered 0 (bytes_of files) k f (ap (λ (l : List File). slice_get l k) (sym e) ∙ h) ∙ omega arith
+
+pub count_parts : (files : List File) (parts : Assemblies) → parts ≡ assemblies_of (bytes_of files) → length parts ≡ length files
+count_parts files parts e = ap length e ∙ length-map (bytes_of files) assembly_of ∙ length-map files (λ (f : File). f.bytes)

@@ -5,9 +5,9 @@ use Rattle.cil_base.specs.Refusals.{First, NoneBroken}
 use Rattle.pe_image.specs.Images.{File}
 use Rattle.pe_image.specs.Cli.{metadata_of}
 use Rattle.assembly_rewrite.specs.Rewrite.{IsContract}
-use Rattle.set_rewrite.specs.Sets.{bytes_of, files_from}
-use Rattle.set_rewrite.proofs.SetLaws.{first_of_all, none_of_all, element, Has, NoneUpTo}
-use Rattle.set_rewrite.proofs.set.first_in_set.Goals as goal
+use Rattle.set_check.specs.Sets.{bytes_of, files_from}
+use Rattle.set_check.proofs.SetLaws.{first_of_all, none_of_all, element, Has, NoneUpTo}
+use Rattle.set_check.proofs.check.first_in_set.Goals as goal
 
 pub returns-in-Some : goal.returns-in-Some
 returns-in-Some c =

@@ -1,0 +1,7 @@
+//! The checks that each command on a set of assemblies makes, TARGET first.
+#![tactic(auto)]
+
+mod check;
+mod read;
+
+pub use check::{checked_set, parts};
