@@ -96,23 +96,27 @@ try() {
 # 0: done, with each command; OUT may be IN, and keeps its mode; a link stays.
 done_body='body: 1 clauses'
 done_image='ok: 1 assemblies, 0 methods, 0 clauses'
+listed=$'type 02000001 <Module>\ntype 02000002 A\nmethod 06000001 .ctor'
 try 0 "$done_body" body new body in.bin new
 try 0 "$done_body" body in.bin body in.bin in.bin
 mode=640 try 0 "$done_body" body old body in.bin old
 try 0 "$done_body" body link body in.bin link
 try 0 "$done_image" image new rewrite --out new in.dll
 try 0 "$done_image" image in.dll rewrite --level 0 --guard 100 --out in.dll in.dll
+try 0 "$listed" old old list in.dll
 
 # 1: the input breaks a rule; the old OUT stays.
 try 1 'refused: I5 assembly 0 table 00 row 0 at 0' old old body text old
 try 1 'refused: P1 assembly 0 table 00 row 0 at 0' old old rewrite --out old text
+try 1 'refused: P1 assembly 1 table 00 row 0 at 0' old old list in.dll text
 try 1 'refused: L1 assembly 0 table 00 row 0 at 67108865' nothing new body longer new
 try 1 'refused: L1 assembly 0 table 00 row 0 at 67108865' old old rewrite --out old longer
 try 1 'refused: P1 assembly 0 table 00 row 0 at 0' nothing new rewrite --out new longest
 
 # 2: wrong words, and words that are no text.
 try 2 'words: 0' nothing new
-try 2 'words: 0' old old list old
+try 2 'words: 0' old old lists old
+try 2 'words: 1' old old list --out old in.dll
 try 2 'words: 2' nothing new body in.bin
 try 2 'words: 3' old old body in.bin old new
 try 2 'words: 2' old old rewrite --level 5 --out old in.dll
@@ -122,6 +126,7 @@ try 2 'words: 0' nothing new body in.bin $'new\xFF'
 try 3 'store: missing' old old body missing old
 try 3 'store: folder' old old body folder old
 try 3 'store: missing' old old rewrite --out old missing
+try 3 'store: missing' old old list in.dll missing
 try 3 'store: readonly' old readonly body in.bin readonly
 try 3 'store: folder' directory folder body in.bin folder
 try 3 'store: pipe' fifo pipe body in.bin pipe
@@ -133,7 +138,8 @@ for sink in closed full; do
     try 4 '' image new rewrite --out new in.dll
     try 4 '' old old body text old
     try 4 '' old old rewrite --out old missing
-    try 4 '' old old list old
+    try 4 '' old old lists old
+    try 4 '' old old list in.dll
 done
 sink=text
 
@@ -141,4 +147,5 @@ sink=text
 memory=60000
 try 5 memory old old body longest old
 try 5 memory nothing new rewrite --out new longest
+try 5 memory old old list longest
 exit $differ

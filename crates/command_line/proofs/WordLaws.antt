@@ -5,10 +5,11 @@ use Rattle.std.specs.Option.{option_or}
 use Rattle.std.specs.Str.{bytes_eq}
 use Rattle.std.specs.declared.alloc.Global.{Global}
 use Rattle.std.proofs.Math.Seq.{take-length}
+use Rattle.std.proofs.lemmas.List.{length-map}
 use Rattle.std.proofs.lemmas.Slice.Eq.{bytes_eq-Decides}
 use Rattle.cil_model.specs.declared.contract.Settings.{Settings}
 use Rattle.command_line.specs.Options.{texts, is_dashed, number_of, value_of, positionals, wrong_option, wrong_positional, are_given, wrong_behind}
-use Rattle.command_line.specs.Words.{wrong_word, rewrite_options, number_or, AreSettings, IsBodyCommand, IsRewriteCommand}
+use Rattle.command_line.specs.Words.{wrong_word, rewrite_options, number_or, AreSettings, IsBodyCommand, IsRewriteCommand, IsListCommand}
 
 -- ---- values
 
@@ -84,4 +85,20 @@ rewrite_command (x ∷ ws) c settings inputs output l e t r n m o s =
       out_is = ap (λ l. value_of (codes "--out") (texts l)) (sym rest) ∙ o;
       inputs_are = ap (λ l. positionals (texts l)) (sym rest) ∙ n;
       target = m;
+    }
+
+pub list_command : (words : List (String Global)) (c : String Global) (inputs : List (List ℕ)) → 1 ≤ length words → c ≡ get_or words 0 c → bytes_eq (string_bytes c) (codes "list") ≡ true → wrong_behind [] true 1 (texts (take (length words - 1) (drop 1 words))) ≡ None → 0 < length (take (length words - 1) (drop 1 words)) → inputs ≡ texts (take (length words - 1) (drop 1 words)) → IsListCommand (texts words) inputs
+list_command [] c inputs l e t r m i = absurd (omega arith)
+list_command (x ∷ ws) c inputs l e t r m i =
+    let rest = take_rest x ws in
+    let r' : wrong_behind [] true 1 (texts ws) ≡ None = ap (λ l. wrong_behind [] true 1 (texts l)) (sym rest) ∙ r in
+    let t' : bytes_eq (string_bytes x) (codes "list") ≡ true = ap (λ s. bytes_eq (string_bytes s) (codes "list")) (sym e) ∙ t in
+    let b : string_bytes x ≡ codes "list" = (bytes_eq-Decides (string_bytes x) (codes "list")).0 t' in
+    let i' : inputs ≡ texts ws = i ∙ ap texts rest in
+    let some : length inputs ≡ length ws = ap length i' ∙ length-map ws string_bytes in
+    let many : length (take (length (x ∷ ws) - 1) ws) ≡ length ws = ap length rest in
+    record {
+      right = ap (λ s. wrong_word (s ∷ texts ws)) b ∙ r';
+      is = ap (λ s. s ∷ texts ws) b ∙ ap (λ l. codes "list" ∷ l) (sym i');
+      target = omega (arith, m, some, many);
     }

@@ -8,7 +8,7 @@ use Rattle.cil_model.specs.declared.contract.Settings.{Settings}
 use Rattle.command_line.specs.declared.options.OptionName.{OptionName}
 use Rattle.command_line.specs.declared.options.OptionName.TheVariants as option
 use Rattle.command_line.specs.declared.words.Command.{Command}
-use Rattle.command_line.specs.declared.words.Command.TheVariants.{Body, Rewrite}
+use Rattle.command_line.specs.declared.words.Command.TheVariants as commands
 use Rattle.command_line.specs.Options.{number_of, value_of, positionals, wrong_behind}
 
 abbrev pub rewrite_options : List OptionName
@@ -20,6 +20,7 @@ wrong_word [] = Some 0
 wrong_word (c ∷ words) =
     if bytes_eq c (codes "body") then wrong_behind [] false 2 words
     else if bytes_eq c (codes "rewrite") then wrong_behind rewrite_options true 1 words
+    else if bytes_eq c (codes "list") then wrong_behind [] true 1 words
     else Some 0
 
 -- the words of a rewriting of one body
@@ -61,9 +62,21 @@ pub record IsRewriteCommand (words : List (List ℕ)) (settings : Settings) (out
   pub inputs_are : positionals behind ≡ inputs
   pub target : 0 < length inputs
 
--- ---- both
+-- ---- the list of an assembly
 
--- The words are those of this command, which reads these files and writes that one.
-abbrev pub IsCommand : List (List ℕ) → Command → List (List ℕ) → List ℕ → Type 0
-IsCommand words Body inputs output = IsBodyCommand words inputs output
-IsCommand words (Rewrite settings) inputs output = IsRewriteCommand words settings output inputs
+-- TARGET comes first, and REFs behind it; there are no options.
+pub record IsListCommand (words inputs : List (List ℕ)) : Type 0 where
+  pub right : wrong_word words ≡ None
+  pub is : words ≡ codes "list" ∷ inputs
+  pub target : 0 < length inputs
+
+-- ---- all
+
+-- The words are those of this command, which reads these files and writes that one, or none.
+abbrev pub IsCommand : List (List ℕ) → Command → List (List ℕ) → Option (List ℕ) → Type 0
+IsCommand words commands.Body inputs None = ⊥
+IsCommand words commands.Body inputs (Some output) = IsBodyCommand words inputs output
+IsCommand words (commands.Rewrite settings) inputs None = ⊥
+IsCommand words (commands.Rewrite settings) inputs (Some output) = IsRewriteCommand words settings output inputs
+IsCommand words commands.List inputs None = IsListCommand words inputs
+IsCommand words commands.List inputs (Some output) = ⊥

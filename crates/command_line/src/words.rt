@@ -13,14 +13,17 @@ pub enum Command {
     Body,
     /// An assembly is rewritten.
     Rewrite(Settings),
+    /// The types of an assembly and their methods are listed.
+    List,
 }
 
-/// A command, the names of the files that it reads in their order, and of the one that it writes.
+/// A command, the names of the files that it reads in their order, and of the one that it writes,
+/// if it writes one.
 #[derive(Drop)]
 pub struct Request<'a> {
     pub command: Command,
     pub inputs: &'a [String],
-    pub output: &'a str,
+    pub output: Option<&'a str>,
 }
 
 const REWRITE_OPTIONS: [OptionName; 3] = [OptionName::Level, OptionName::Guard, OptionName::Out];
@@ -100,9 +103,21 @@ fn rewrite_names(words: &[String]) -> Result<(&[String], &str), usize>
     }
 }
 
+/// TARGET with the REFs behind it, which are all the words behind `list`, or the place of the first
+/// wrong word.
+fn list_names(words: &[String]) -> Result<&[String], usize>
+    ensures right { IfOk result (λ names. (names.now ≡ words.now) × (wrong_behind [] true 1 (texts words.now) ≡ None) × (0 < length words.now)) }
+    ensures wrong { IfErr result (λ k. wrong_behind [] true 1 (texts words.now) ≡ Some k) }
+{
+    match wrong_behind(words, &[], true, 1) {
+        Some(place) => Err(place),
+        None => Ok(words),
+    }
+}
+
 /// What the words ask for, or the place of the first wrong word.
 pub fn command_of(words: &[String]) -> Result<Request, usize>
-    ensures right { IfOk result (λ r. IsCommand (texts words.now) r.command (texts r.inputs.now) r.output.now) }
+    ensures right { IfOk result (λ r. IsCommand (texts words.now) r.command (texts r.inputs.now) (option_map (λ name. name.now) r.output)) }
     ensures wrong { IfErr result (λ k. wrong_word (texts words.now) ≡ Some k) }
 {
     match words {
@@ -113,7 +128,17 @@ pub fn command_of(words: &[String]) -> Result<Request, usize>
                     Ok((inputs, output)) => Ok(Request {
                         command: Command::Body,
                         inputs,
-                        output,
+                        output: Some(output),
+                    }),
+                    Err(place) => Err(place),
+                };
+            }
+            if command.as_str() == "list" {
+                return match list_names(behind) {
+                    Ok(inputs) => Ok(Request {
+                        command: Command::List,
+                        inputs,
+                        output: None,
                     }),
                     Err(place) => Err(place),
                 };
@@ -125,7 +150,7 @@ pub fn command_of(words: &[String]) -> Result<Request, usize>
                 Ok((inputs, output)) => Ok(Request {
                     command: Command::Rewrite(settings_of(behind)),
                     inputs,
-                    output,
+                    output: Some(output),
                 }),
                 Err(place) => Err(place),
             }

@@ -1,5 +1,5 @@
 // The words of a process.
-ghost use Rattle.std.specs.Prelude.{◌≡◌, ℕ, List, IfOk, IfErr, IsTrue, IsSome};
+ghost use Rattle.std.specs.Prelude.{◌≡◌, ℕ, List, Option, IfOk, IfErr, IsTrue, IsSome};
 ghost use Rattle.cil_base.specs.Causes.{Rose};
 ghost use Rattle.command_line.specs.Options.{texts};
 ghost use Rattle.command_line.specs.Words.{wrong_word, IsCommand};
@@ -44,7 +44,7 @@ pub fn run_process<S: Store, W: Sink>(
     ensures answer { IfOk words (λ told. (status : ℕ) × (text : List ℕ)
         × Answer (S.tells store.old) (S.file store.old) (S.file store.new) (S.faults store.old) (S.faults store.new) (texts told.items) status text
         × Puts (W.tells out.old) (W.taken out.old) (W.taken out.new) (W.faults out.old) (W.faults out.new) (W.room out.old) text status result) }
-    ensures complete { IfOk words (λ told. (command : Command) → (inputs : List (List ℕ)) → (output : List ℕ) → IsCommand (texts told.items) command inputs output → IsTrue (S.tells store.old)
+    ensures complete { IfOk words (λ told. (command : Command) → (inputs : List (List ℕ)) → (output : Option (List ℕ)) → IsCommand (texts told.items) command inputs output → IsTrue (S.tells store.old)
         → ¬ Rose (S.faults store.old) (S.faults store.new) → ¬ Rose (W.faults out.old) (W.faults out.new)
         → Expected command (reading (S.file store.old) inputs) result) }
     ensures steady { IsTrue (S.steady store.old) → S.faults store.new ≡ S.faults store.old }

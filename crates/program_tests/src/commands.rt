@@ -280,6 +280,22 @@ fn wrong_words_of_rewrite(rt: HostRuntime) -> Result<(), Fail> {
     Ok(())
 }
 
+#[test]
+fn wrong_words_of_list(rt: HostRuntime) -> Result<(), Fail> {
+    let cases: [(&[&str], u8, &[u8]); 5] = [
+        (&["list"], 2, b"words: 1\n"),
+        (&["list", "--out", "o", "a.dll"], 2, b"words: 1\n"),
+        (&["list", "-a.dll"], 2, b"words: 1\n"),
+        (&["list", "a.dll", "--text"], 2, b"words: 2\n"),
+        (&["list", "a.dll", "b.dll"], 3, b"store: a.dll\n"),
+    ];
+    for (texts, status, text) in cases {
+        let holds = words_answer(rt.alloc(), texts, (status, text))?;
+        assert!(rt; holds, "at {texts:?}");
+    }
+    Ok(())
+}
+
 /// A store whose files are all too long.
 #[derive(Drop)]
 struct LongStore;
@@ -315,7 +331,11 @@ fn is_too_long(alloc: Global, texts: &[&str]) -> Result<bool, AllocError> {
 
 #[test]
 fn long_files_are_refused(rt: HostRuntime) -> Result<(), Fail> {
-    let cases: [&[&str]; 2] = [&["body", "in", "out"], &["rewrite", "--out", "out", "in"]];
+    let cases: [&[&str]; 3] = [
+        &["body", "in", "out"],
+        &["rewrite", "--out", "out", "in"],
+        &["list", "in"],
+    ];
     for texts in cases {
         let holds = is_too_long(rt.alloc(), texts)?;
         assert!(rt; holds, "at {texts:?}");

@@ -4,6 +4,8 @@
 #[cfg(test)]
 mod commands;
 #[cfg(test)]
+mod list;
+#[cfg(test)]
 mod rewrite;
 #[cfg(test)]
 mod sets;

@@ -65,8 +65,8 @@ fn finished(alloc: Global, builder: Builder) -> Result<Vec<u8>, Fault> {
 }
 
 /// Module, `<Module>` and Assembly rows; their name.
-fn add_rows(builder: &mut Builder) -> Result<u32, Fault> {
-    let name = builder.string(b"a")?;
+fn add_rows(builder: &mut Builder, name: &[u8]) -> Result<u32, Fault> {
+    let name = builder.string(name)?;
     let module = builder.string(b"<Module>")?;
     add_module(builder, name)?;
     add_type(builder, module)?;
@@ -75,8 +75,13 @@ fn add_rows(builder: &mut Builder) -> Result<u32, Fault> {
 }
 
 /// Rows, and where it is wanted a class with a method or a row of the namespace of Code Contracts.
-fn add_all(builder: &mut Builder, with_class: bool, with_contract: bool) -> Result<(), Fault> {
-    let name = add_rows(builder)?;
+fn add_all(
+    builder: &mut Builder,
+    name: &[u8],
+    with_class: bool,
+    with_contract: bool,
+) -> Result<(), Fault> {
+    let name = add_rows(builder, name)?;
     if with_class {
         add_class(builder, name)?;
     }
@@ -131,7 +136,7 @@ pub(crate) enum Holder {
 /// The bytes of an assembly with a row that names this blob.
 pub(crate) fn with_blob(alloc: Global, holder: Holder, blob: &[u8]) -> Result<Vec<u8>, Fault> {
     let mut builder = Builder::new(alloc)?;
-    add_rows(&mut builder)?;
+    add_rows(&mut builder, b"a")?;
     match holder {
         Holder::Signature => {
             let signature = builder.blob(blob)?;
@@ -146,10 +151,20 @@ pub(crate) fn with_blob(alloc: Global, holder: Holder, blob: &[u8]) -> Result<Ve
     finished(alloc, builder)
 }
 
-pub(crate) fn made(alloc: Global, with_class: bool, with_contract: bool) -> Result<Vec<u8>, Fault> {
+/// The bytes of an assembly of this name.
+pub(crate) fn made_as(
+    alloc: Global,
+    name: &[u8],
+    with_class: bool,
+    with_contract: bool,
+) -> Result<Vec<u8>, Fault> {
     let mut builder = Builder::new(alloc)?;
-    add_all(&mut builder, with_class, with_contract)?;
+    add_all(&mut builder, name, with_class, with_contract)?;
     finished(alloc, builder)
+}
+
+pub(crate) fn made(alloc: Global, with_class: bool, with_contract: bool) -> Result<Vec<u8>, Fault> {
+    made_as(alloc, b"a", with_class, with_contract)
 }
 
 /// The bytes of an assembly of three rows, and where one is wanted, of a class with a method.

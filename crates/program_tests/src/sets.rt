@@ -1,7 +1,7 @@
 // `rewrite` of an assembly with others that it refers to.
 
 use crate::commands::{listed, words_from};
-use crate::rewrite::{Holder, has_the_rows, made, with_blob};
+use crate::rewrite::{Holder, has_the_rows, made, made_as, with_blob};
 use cil_base::{Fault, U32s};
 use outside_core::{MemSink, MemStore};
 use program::run_words;
@@ -20,8 +20,8 @@ fn put_other(alloc: Global, store: &mut MemStore, other: Other) -> Result<(), Fa
     match other {
         Other::Missing => {}
         Other::Empty => store.put_file("b.dll", b"")?,
-        Other::WithoutContracts => store.put_file("b.dll", &made(alloc, false, false)?)?,
-        Other::WithContracts => store.put_file("b.dll", &made(alloc, false, true)?)?,
+        Other::WithoutContracts => store.put_file("b.dll", &made_as(alloc, b"b", false, false)?)?,
+        Other::WithContracts => store.put_file("b.dll", &made_as(alloc, b"b", false, true)?)?,
     }
     Ok(())
 }

@@ -17,7 +17,7 @@ returns-in-Ok-clause-answer g c =
     let read = c.in-Ok.ensures.read in
     let few : length names ≤ ASSEMBLY_LIMIT = omega (arith, c.requires.few, length-map c.args.inputs.now string_bytes) in
     replied_weaker _ _ c.answer_bytes.result
-    (λ status text. from_read c.args.command (store.tells old) (store.tells mid) (store.file old) (store.file mid) (store.file new) (store.faults old) (store.faults mid) (store.faults new) names set c.args.output.now status text
+    (λ status text. from_read c.args.command (store.tells old) (store.tells mid) (store.file old) (store.file mid) (store.file new) (store.faults old) (store.faults mid) (store.faults new) names set _ status text
     c.in-Ok.ensures.tells c.in-Ok.ensures.kept read.0 (λ t. few_read (store.file old) names few ∙ read.3 t ∙ ap Whole (sym c.as_slice.ensures.value)))
     c.answer_bytes.ensures.answer
 

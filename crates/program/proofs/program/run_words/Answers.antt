@@ -1,4 +1,3 @@
-use Rattle.std.proofs.Common.{string_bytes}
 use Rattle.command_line.specs.Options.{texts}
 use Rattle.program.specs.Reading.{reading}
 use Rattle.program.proofs.AnswerLaws.{answer_expected, expected_memory, put_expected}
@@ -10,8 +9,8 @@ returns-in-Ok-clause-complete g c = λ command inputs output is tells calm quiet
     let new = c.answer_words.new.store in
     let out = c.args.out.now in
     let reply = c.in-Ok.reply in
-    let expected = answer_expected (g.S.Store.tells store) (g.S.Store.file store) (g.S.Store.file new) (g.S.Store.faults store) (g.S.Store.faults new) (texts c.args.words.now) reply.status (string_bytes reply.text) command inputs output is tells calm c.in-Ok.ensures.answer in
-    put_expected (g.W.Sink.tells out) (g.W.Sink.taken out) (g.W.Sink.taken c.put_text-in-Ok.new.out) (g.W.Sink.faults out) (g.W.Sink.faults c.put_text-in-Ok.new.out) (g.W.Sink.room out) c.as_bytes.result.now reply.status c.put_text-in-Ok.result command (reading (g.S.Store.file store) inputs) quiet c.put_text-in-Ok.ensures expected
+    let expected = answer_expected (g.S.Store.tells store) (g.S.Store.file store) (g.S.Store.file new) (g.S.Store.faults store) (g.S.Store.faults new) (texts c.args.words.now) reply.status reply.text command inputs output is tells calm c.in-Ok.ensures.answer in
+    put_expected (g.W.Sink.tells out) (g.W.Sink.taken out) (g.W.Sink.taken c.put_text-in-Ok.new.out) (g.W.Sink.faults out) (g.W.Sink.faults c.put_text-in-Ok.new.out) (g.W.Sink.room out) c.as_slice.result.now reply.status c.put_text-in-Ok.result command (reading (g.S.Store.file store) inputs) quiet c.put_text-in-Ok.ensures expected
 
 pub returns-in-Err-clause-complete : goal.returns-in-Err-clause-complete
 returns-in-Err-clause-complete g c = λ command inputs output is tells calm quiet.
