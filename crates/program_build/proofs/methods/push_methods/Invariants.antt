@@ -1,0 +1,9 @@
+use Rattle.std.proofs.Common.{◌≡◌, ◌+◌, ◌++◌}
+use Rattle.std.specs.Prelude.{map}
+use Rattle.std.specs.List.{range_with_len}
+use Rattle.program_build.specs.Orders.{method_at_row}
+use Rattle.program_build.proofs.methods.push_methods.Given as goal
+
+-- those of the rows so far
+abbrev pub invariant-loop-k : goal.invariant-loop-k
+invariant-loop-k l = l.out ≡ l.initial.out ++ map (method_at_row l.tables l.a) (range_with_len (l.before + 1) l.k)
