@@ -1,5 +1,5 @@
 -- Which refusals of the files of a command are named.
-use Rattle.std.proofs.Common.{◌≡◌, ◌⊎◌, ℕ, List, [], ◌∷◌, length, sym, ◌∙◌, inl, inr}
+use Rattle.std.proofs.Common.{◌≡◌, ◌⊎◌, ℕ, false, List, [], ◌∷◌, length, sym, ◌∙◌, inl, inr}
 use Rattle.cil_base.specs.declared.refusal.Refusal.{Refusal}
 use Rattle.cil_base.specs.Refusals.{InLayers}
 use Rattle.cil_base.proofs.OrderLaws.{first_is_one}
@@ -40,7 +40,7 @@ one_inner commands.Body set r s h k =
 one_inner (commands.Rewrite settings) set r s h k =
     one_of (rewriting.Breaks set) (rewriting.Names set) (rewriting.MayBoth set) (names_broken set) (names_one set) (rewriting.layers (length set)) r s h k
 one_inner commands.List set r s h k =
-    layers_are_one (checked.Breaks set) (checked.Names set) (λ x y. ⊥) (checked.layers (length set)) (checks.names_broken set) (λ l x y p q. inl (checks.names_one set l x y p q)) r s h k
+    layers_are_one (checked.Breaks set) (checked.Names set) (λ x y. ⊥) (checked.layers false (length set)) (checks.names_broken set) (λ l x y p q. inl (checks.names_one set l x y p q)) r s h k
 
 -- The files are refused by one refusal, but for a second limit.
 pub one_refusal : (command : Command) (files : Reading) (r s : Refusal) → IsRefusal command files r → IsRefusal command files s → (s ≡ r) ⊎ IsEither command files s r

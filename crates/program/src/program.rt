@@ -1,5 +1,5 @@
 // The program's commands.
-ghost use Rattle.std.specs.Prelude.{◌≡◌, ◌≢◌, ◌⊎◌, ℕ, ◌≤◌, ◌<◌, List, [], length, Option, option_map, IfOk, IsOkAnd, OnOk, IsTrue, IsSome};
+ghost use Rattle.std.specs.Prelude.{◌≡◌, ◌≢◌, ◌⊎◌, ℕ, ◌≤◌, ◌<◌, false, List, [], length, Option, option_map, IfOk, IsOkAnd, OnOk, IsTrue, IsSome};
 ghost use Rattle.cil_base.specs.Causes.{Rose};
 ghost use Rattle.cil_base.specs.Refusals.{OnRefused};
 ghost use Rattle.outside_core.specs.Store.{SameFiles};
@@ -98,8 +98,8 @@ fn make_list(alloc: Global, files: &[Bytes]) -> Result<Output, Fault>
     requires within { AreWithin files.now }
     requires some { 0 < length files.now }
     ensures done { IfOk result (λ made. (made.bytes ≡ []) × (made.text ≡ listed files.now)) }
-    ensures accepted { OnOk result (IsSound files.now) }
-    ensures refused { OnRefused result (IsUnsound files.now) }
+    ensures accepted { OnOk result (IsSound false files.now) }
+    ensures refused { OnRefused result (IsUnsound false files.now) }
 {
     match list_set(alloc, files) {
         Ok(text) => Ok(Output {

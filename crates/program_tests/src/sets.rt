@@ -152,7 +152,7 @@ fn signatures_of_a_set_are_refused(rt: HostRuntime) -> Result<(), Fault> {
         (
             (class, &[0x01, 0x00, 0x01, 0x58, 0x00, 0x00]),
             (spec, array),
-            b"refused: Z1 assembly 0 table 01 row 2 at 0\n",
+            b"refused: N1 assembly 0 table 0C row 1 at 0\n",
         ),
     ];
     for (own, other, want) in cases {

@@ -1,5 +1,5 @@
 -- Sets of assemblies: what is read of each, and the first that has contracts.
-use Rattle.std.proofs.Common.{◌≡◌, ◌⊎◌, ℕ, zero, suc, ◌+◌, ◌<◌, ◌≤◌, false, List, [], ◌∷◌, ◌++◌, length, get_or, take, Option, Some, None, refl, sym, ap, ◌∙◌, subst, inl, inr, arith, add-one}
+use Rattle.std.proofs.Common.{◌≡◌, ◌⊎◌, ℕ, zero, suc, ◌+◌, ◌<◌, ◌≤◌, Bool, false, List, [], ◌∷◌, ◌++◌, length, get_or, take, Option, Some, None, refl, sym, ap, ◌∙◌, subst, inl, inr, arith, add-one}
 use Rattle.std.specs.Prelude.{slice_get}
 use Rattle.std.proofs.lemmas.Bool.{cases_lt}
 use Rattle.std.proofs.lemmas.List.{length-map, length-take-le, take_all, get_or_default}
@@ -15,8 +15,9 @@ use Rattle.assembly.specs.Assemblies as reading
 use Rattle.set_program.specs.Files as files_of_set
 use Rattle.set_rows.specs.Sets.{Assemblies, assembly_of}
 use Rattle.assembly_rewrite.specs.Rewrite.{IsContract}
-use Rattle.set_blobs.specs.BadBlobs.{BreaksBlobs}
-use Rattle.set_check.specs.Sets.{bytes_at, bytes_of, files_from, reading_layers, all_reading_layers, later_layers, Layer, Breaks, Names, IsContractOf, IsSound, IsUnsound, assemblies_of}
+use Rattle.name_rules.specs.NameTests.{BreaksNames}
+use Rattle.body_rules.specs.Sets.{BreaksBodies}
+use Rattle.set_check.specs.Sets.{bytes_at, bytes_of, files_from, reading_layers, all_reading_layers, program_layers, row_layers, later_layers, Layer, Signatures, NameRules, Bodies, Contracts, Breaks, Names, IsContractOf, IsSound, IsUnsound, assemblies_of}
 
 -- ---- layers of reading
 
@@ -159,16 +160,48 @@ names_broken set l r h = h.broken
 pub names_one : (set : List (List ℕ)) (l : Layer) (r s : Refusal) → Names set l r → Names set l s → s ≡ r
 names_one set l r s h k = first_is_one (Breaks set l) r s h k
 
--- ---- the rules behind those on the bytes of each
+-- ---- the rules on rows and bodies, and behind them Z1
 
-abbrev pub AreInGrammar : List (List ℕ) → Type 0
-AreInGrammar set = NoneBroken (BreaksBlobs (assemblies_of set))
+module _ (set : List (List ℕ)) (writes : Bool) where
+  abbrev pub KeepsNames : Type 0
+  KeepsNames = NoneBroken (Breaks set (NameRules writes))
 
-pub refused_later : (set : List (List ℕ)) (r : Refusal) → AreInGrammar set → First (IsContractOf set) r → InLayers (Breaks set) (Names set) later_layers r
-refused_later set r sound h = inr (sound, inl h)
+  pub names_refused : (r : Refusal) → First (Breaks set (NameRules writes)) r → InLayers (Breaks set) (Names set) (program_layers writes) r
+  names_refused r h = inl h
 
-pub kept_later : (set : List (List ℕ)) → AreInGrammar set → NoneBroken (IsContractOf set) → NoneOf (Breaks set) later_layers
-kept_later set sound none = (sound, (none, tt))
+  pub bodies_refused : (r : Refusal) → KeepsNames → First (Breaks set Bodies) r → InLayers (Breaks set) (Names set) (program_layers writes) r
+  bodies_refused r named h = inr (named, inl h)
+
+  pub bodies_kept : KeepsNames → NoneBroken (Breaks set Bodies) → NoneOf (Breaks set) (program_layers writes)
+  bodies_kept named h = (named, (h, tt))
+
+  -- of a program's assemblies, which are those of the set
+  pub names_refused_of : (s : Assemblies) → s ≡ assemblies_of set → (r : Refusal) → First (BreaksNames s writes) r → InLayers (Breaks set) (Names set) (program_layers writes) r
+  names_refused_of s e r h = names_refused r (subst (λ (l : Assemblies). First (BreaksNames l writes) r) e h)
+
+  pub bodies_refused_of : (s : Assemblies) → s ≡ assemblies_of set → (r : Refusal) → NoneBroken (BreaksNames s writes) → First (BreaksBodies s) r → InLayers (Breaks set) (Names set) (program_layers writes) r
+  bodies_refused_of s e r named h = bodies_refused r (subst (λ (l : Assemblies). NoneBroken (BreaksNames l writes)) e named) (subst (λ (l : Assemblies). First (BreaksBodies l) r) e h)
+
+  pub bodies_kept_of : (s : Assemblies) → s ≡ assemblies_of set → NoneBroken (BreaksNames s writes) → NoneBroken (BreaksBodies s) → NoneOf (Breaks set) (program_layers writes)
+  bodies_kept_of s e named h = bodies_kept (subst (λ (l : Assemblies). NoneBroken (BreaksNames l writes)) e named) (subst (λ (l : Assemblies). NoneBroken (BreaksBodies l)) e h)
+
+  pub blobs_refused : (r : Refusal) → First (Breaks set Signatures) r → InLayers (Breaks set) (Names set) (row_layers writes) r
+  blobs_refused r h = inl h
+
+  pub program_refused : (r : Refusal) → NoneBroken (Breaks set Signatures) → InLayers (Breaks set) (Names set) (program_layers writes) r → InLayers (Breaks set) (Names set) (row_layers writes) r
+  program_refused r sound h = inr (sound, h)
+
+  pub program_kept : NoneBroken (Breaks set Signatures) → NoneOf (Breaks set) (program_layers writes) → NoneOf (Breaks set) (row_layers writes)
+  program_kept sound h = (sound, h)
+
+  pub rows_refused : (r : Refusal) → InLayers (Breaks set) (Names set) (row_layers writes) r → InLayers (Breaks set) (Names set) (later_layers writes) r
+  rows_refused r h = named_before (Breaks set) (Names set) (row_layers writes) (Contracts ∷ []) r h
+
+  pub contract_refused : (r : Refusal) → NoneOf (Breaks set) (row_layers writes) → First (IsContractOf set) r → InLayers (Breaks set) (Names set) (later_layers writes) r
+  contract_refused r sound h = named_behind (Breaks set) (Names set) (row_layers writes) (Contracts ∷ []) r sound (inl h)
+
+  pub later_kept : NoneOf (Breaks set) (row_layers writes) → NoneBroken (IsContractOf set) → NoneOf (Breaks set) (later_layers writes)
+  later_kept sound none = none_joined (Breaks set) (Names set) (row_layers writes) (Contracts ∷ []) sound (none, tt)
 
 -- the bytes of what was read are those of the files
 pub same_bytes : (all : List (List ℕ)) (set slice : List File) → set ≡ files_from 0 all → slice ≡ set → bytes_of slice ≡ all
@@ -176,18 +209,19 @@ same_bytes all set slice e s = ap bytes_of (s ∙ e) ∙ bytes_back 0 all
 
 -- ---- all layers
 
-pub unread_unsound : (all : List (List ℕ)) (r : Refusal) → InLayers (Breaks all) (Names all) (all_reading_layers 0 (length all)) r → IsUnsound all r
-unread_unsound all r h = named_before (Breaks all) (Names all) (all_reading_layers 0 (length all)) later_layers r h
+module _ (writes : Bool) (all : List (List ℕ)) where
+  pub unread_unsound : (r : Refusal) → InLayers (Breaks all) (Names all) (all_reading_layers 0 (length all)) r → IsUnsound writes all r
+  unread_unsound r h = named_before (Breaks all) (Names all) (all_reading_layers 0 (length all)) (later_layers writes) r h
 
-pub unsound_later : (all bytes : List (List ℕ)) (r : Refusal) → bytes ≡ all → NoneOf (Breaks all) (all_reading_layers 0 (length all)) → InLayers (Breaks bytes) (Names bytes) later_layers r → IsUnsound all r
-unsound_later all bytes r e read h =
-    named_behind (Breaks all) (Names all) (all_reading_layers 0 (length all)) later_layers r read
-    (subst (λ (l : List (List ℕ)). InLayers (Breaks l) (Names l) later_layers r) e h)
+  pub unsound_later : (bytes : List (List ℕ)) (r : Refusal) → bytes ≡ all → NoneOf (Breaks all) (all_reading_layers 0 (length all)) → InLayers (Breaks bytes) (Names bytes) (later_layers writes) r → IsUnsound writes all r
+  unsound_later bytes r e read h =
+      named_behind (Breaks all) (Names all) (all_reading_layers 0 (length all)) (later_layers writes) r read
+      (subst (λ (l : List (List ℕ)). InLayers (Breaks l) (Names l) (later_layers writes) r) e h)
 
-pub sound_joined : (all bytes : List (List ℕ)) → bytes ≡ all → NoneOf (Breaks all) (all_reading_layers 0 (length all)) → NoneOf (Breaks bytes) later_layers → IsSound all
-sound_joined all bytes e read h =
-    none_joined (Breaks all) (Names all) (all_reading_layers 0 (length all)) later_layers read
-    (subst (λ (l : List (List ℕ)). NoneOf (Breaks l) later_layers) e h)
+  pub sound_joined : (bytes : List (List ℕ)) → bytes ≡ all → NoneOf (Breaks all) (all_reading_layers 0 (length all)) → NoneOf (Breaks bytes) (later_layers writes) → IsSound writes all
+  sound_joined bytes e read h =
+      none_joined (Breaks all) (Names all) (all_reading_layers 0 (length all)) (later_layers writes) read
+      (subst (λ (l : List (List ℕ)). NoneOf (Breaks l) (later_layers writes)) e h)
 
 -- ---- as a program's assemblies
 
@@ -198,6 +232,10 @@ same_assemblies (f ∷ fs) = ap (λ (l : Assemblies). assembly_of f.bytes ∷ l)
 abbrev number_or : ℕ → Option File → ℕ
 number_or n None = n
 number_or n (Some f) = f.assembly
+
+abbrev bytes_or : List ℕ → Option File → List ℕ
+bytes_or none None = none
+bytes_or none (Some f) = f.bytes
 
 places_numbered : (a : ℕ) (all : List (List ℕ)) (k : ℕ) (f : File) → slice_get (files_from a all) k ≡ Some f → f.assembly ≡ a + k
 places_numbered a [] k f e = absurd cc
@@ -210,6 +248,12 @@ places_numbered a (x ∷ all) (suc k) f e =
 
 pub are_numbered : (files : List File) → files ≡ files_from 0 (bytes_of files) → files_of_set.AreNumbered files
 are_numbered files e k f h = places_numbered 0 (bytes_of files) k f (ap (λ (l : List File). slice_get l k) (sym e) ∙ h) ∙ omega arith
+
+-- an assembly that is there has the bytes of its place
+pub bytes_of_there : (files : List File) (k : ℕ) (f : File) → slice_get files k ≡ Some f → f.bytes ≡ bytes_at (bytes_of files) k
+bytes_of_there [] k f e = absurd cc
+bytes_of_there (x ∷ xs) zero f e = ap (bytes_or []) (sym e)
+bytes_of_there (x ∷ xs) (suc k) f e = bytes_of_there xs k f e
 
 pub count_parts : (files : List File) (parts : Assemblies) → parts ≡ assemblies_of (bytes_of files) → length parts ≡ length files
 count_parts files parts e = ap length e ∙ length-map (bytes_of files) assembly_of ∙ length-map files (λ (f : File). f.bytes)

@@ -1,5 +1,5 @@
 -- The rules that each command on a set of assemblies (ECMA-335, II.6.1) tries, TARGET first.
-use Rattle.std.specs.Prelude.{ℕ, ◌+◌, ◌<◌, List, [], ◌∷◌, ◌++◌, map, flat_map, length, get_or}
+use Rattle.std.specs.Prelude.{ℕ, ◌+◌, ◌<◌, Bool, List, [], ◌∷◌, ◌++◌, map, flat_map, length, get_or}
 use Rattle.std.specs.List.{range_with_len}
 use Rattle.cil_base.specs.declared.refusal.Refusal.{Refusal}
 use Rattle.cil_base.specs.Refusals.{First, InLayers, NoneOf}
@@ -8,6 +8,8 @@ use Rattle.pe_image.specs.Cli.{metadata_of}
 use Rattle.assembly.specs.Assemblies as reading
 use Rattle.set_rows.specs.Sets.{Assemblies, assembly_of}
 use Rattle.set_blobs.specs.BadBlobs.{BreaksBlobs}
+use Rattle.name_rules.specs.NameTests.{BreaksNames}
+use Rattle.body_rules.specs.Sets.{BreaksBodies}
 use Rattle.assembly_rewrite.specs.Rewrite.{IsContract}
 
 -- the bytes of an assembly, by its number
@@ -28,10 +30,12 @@ assemblies_of set = map assembly_of set
 
 -- ---- the layers of rules
 
--- the rules on the bytes of one assembly; those on blobs, and Z1, on all
+-- the rules on the bytes of one assembly; those on blobs, on names (with that on the names that a rewriting adds, or without), on bodies, and Z1, on all
 pub data Layer : Type 0 where
   Reading : ℕ → reading.Layer → Layer
   Signatures : Layer
+  NameRules : Bool → Layer
+  Bodies : Layer
   Contracts : Layer
 
 abbrev pub reading_layers : ℕ → List Layer
@@ -41,13 +45,20 @@ reading_layers a = map (Reading a) reading.layers
 abbrev pub all_reading_layers : ℕ → ℕ → List Layer
 all_reading_layers a n = flat_map reading_layers (range_with_len a n)
 
--- what is tried where each assembly is read
-abbrev pub later_layers : List Layer
-later_layers = Signatures ∷ Contracts ∷ []
+-- what is tried where each signature is one
+abbrev pub program_layers : Bool → List Layer
+program_layers writes = NameRules writes ∷ Bodies ∷ []
 
--- of a set of so many, in the order in which they are tried
-abbrev pub layers : ℕ → List Layer
-layers n = all_reading_layers 0 n ++ later_layers
+abbrev pub row_layers : Bool → List Layer
+row_layers writes = Signatures ∷ program_layers writes
+
+-- what is tried where each assembly is read
+abbrev pub later_layers : Bool → List Layer
+later_layers writes = row_layers writes ++ Contracts ∷ []
+
+-- of a set of so many, whose TARGET is to be rewritten or not, in the order in which they are tried
+abbrev pub layers : Bool → ℕ → List Layer
+layers writes n = all_reading_layers 0 n ++ later_layers writes
 
 -- some assembly of the set has contracts, which no command reads yet
 abbrev pub IsContractOf : List (List ℕ) → Refusal → Type 0
@@ -57,6 +68,8 @@ IsContractOf set r = (r.assembly < length set) × IsContract (metadata_of (bytes
 abbrev pub Breaks : List (List ℕ) → Layer → Refusal → Type 0
 Breaks set (Reading a layer) = reading.Breaks (bytes_at set a) a layer
 Breaks set Signatures = BreaksBlobs (assemblies_of set)
+Breaks set (NameRules writes) = BreaksNames (assemblies_of set) writes
+Breaks set Bodies = BreaksBodies (assemblies_of set)
 Breaks set Contracts = IsContractOf set
 
 -- the first of a layer
@@ -64,9 +77,9 @@ abbrev pub Names : List (List ℕ) → Layer → Refusal → Type 0
 Names set layer = First (Breaks set layer)
 
 -- the first broken rule of the set
-abbrev pub IsUnsound : List (List ℕ) → Refusal → Type 0
-IsUnsound set = InLayers (Breaks set) (Names set) (layers (length set))
+abbrev pub IsUnsound : Bool → List (List ℕ) → Refusal → Type 0
+IsUnsound writes set = InLayers (Breaks set) (Names set) (layers writes (length set))
 
 -- no rule is broken
-abbrev pub IsSound : List (List ℕ) → Type 0
-IsSound set = NoneOf (Breaks set) (layers (length set))
+abbrev pub IsSound : Bool → List (List ℕ) → Type 0
+IsSound writes set = NoneOf (Breaks set) (layers writes (length set))

@@ -4,4 +4,4 @@
 mod check;
 mod read;
 
-pub use check::{checked_set, parts};
+pub use check::{checked_program, checked_set};

@@ -1,5 +1,5 @@
 -- The rules of a set, and behind them those on what is written.
-use Rattle.std.proofs.Common.{◌≡◌, ◌⊎◌, ℕ, ◌+◌, ◌<◌, List, [], ◌∷◌, ◌++◌, map, length, subst, inl, inr, sym, arith}
+use Rattle.std.proofs.Common.{◌≡◌, ◌⊎◌, ℕ, ◌+◌, ◌<◌, true, List, [], ◌∷◌, ◌++◌, map, length, subst, inl, inr, sym, arith}
 use Rattle.cil_base.specs.declared.refusal.Refusal.{Refusal}
 use Rattle.cil_base.specs.Refusals.{NoneBroken, InLayers, NoneOf}
 use Rattle.cil_base.proofs.LayerLaws.{named_before, named_behind, none_joined}
@@ -22,27 +22,27 @@ module _ (set : List (List ℕ)) where
   none_in_set [] h = tt
   none_in_set (l ∷ ls) h = (h.0, none_in_set ls h.1)
 
-  pub unsound_refused : (r : Refusal) → IsUnsound set r → IsSetRefusal set r
-  unsound_refused r h = named_before (Breaks set) (Names set) (map OfSet (checked.layers (length set))) writing_layers r (named_in_set (checked.layers (length set)) r h)
+  pub unsound_refused : (r : Refusal) → IsUnsound true set r → IsSetRefusal set r
+  unsound_refused r h = named_before (Breaks set) (Names set) (map OfSet (checked.layers true (length set))) writing_layers r (named_in_set (checked.layers true (length set)) r h)
 
   -- ---- no contract in a sound set
 
-  none_of : (ls : List checked.Layer) → NoneOf (checked.Breaks set) (ls ++ checked.later_layers) → NoneBroken (IsContractOf set)
-  none_of [] h = h.1.0
+  none_of : (ls : List checked.Layer) → NoneOf (checked.Breaks set) (ls ++ checked.later_layers true) → NoneBroken (IsContractOf set)
+  none_of [] h = h.1.1.1.0
   none_of (l ∷ ls) h = none_of ls h.1
 
-  no_contract : IsSound set → NoneBroken (IsContractOf set)
+  no_contract : IsSound true set → NoneBroken (IsContractOf set)
   no_contract h = none_of (checked.all_reading_layers 0 (length set)) h
 
-  pub written_refused : 0 < length set → IsSound set → (r : Refusal) → one.IsRewriteRefusal (bytes_at set 0) 0 r → IsSetRefusal set r
+  pub written_refused : 0 < length set → IsSound true set → (r : Refusal) → one.IsRewriteRefusal (bytes_at set 0) 0 r → IsSetRefusal set r
   written_refused some sound r (inl h) =
       let number : 0 ≡ r.assembly = sym h.broken.assembly_is in
       absurd (no_contract sound r (omega (arith, some, number), subst (λ (j : ℕ). checks.Has set j r) number h.broken))
   written_refused some sound r (inr h) =
-      named_behind (Breaks set) (Names set) (map OfSet (checked.layers (length set))) writing_layers r (none_in_set (checked.layers (length set)) sound) h.1
+      named_behind (Breaks set) (Names set) (map OfSet (checked.layers true (length set))) writing_layers r (none_in_set (checked.layers true (length set)) sound) h.1
 
-  pub written_kept : IsSound set → one.KeepsRewriteRules (bytes_at set 0) 0 → KeepsSetRules set
-  written_kept sound h = none_joined (Breaks set) (Names set) (map OfSet (checked.layers (length set))) writing_layers (none_in_set (checked.layers (length set)) sound) h.1
+  pub written_kept : IsSound true set → one.KeepsRewriteRules (bytes_at set 0) 0 → KeepsSetRules set
+  written_kept sound h = none_joined (Breaks set) (Names set) (map OfSet (checked.layers true (length set))) writing_layers (none_in_set (checked.layers true (length set)) sound) h.1
 
 -- ---- which refusals are named
 

@@ -1,5 +1,5 @@
 -- What `rewrite` makes of a set of assemblies (ECMA-335, II.6.1), TARGET first: TARGET written anew.
-use Rattle.std.specs.Prelude.{ℕ, List, [], ◌∷◌, ◌++◌, map, length}
+use Rattle.std.specs.Prelude.{ℕ, true, List, [], ◌∷◌, ◌++◌, map, length}
 use Rattle.cil_base.specs.declared.refusal.Refusal.{Refusal}
 use Rattle.cil_base.specs.Refusals.{InLayers, NoneOf}
 use Rattle.set_check.specs.Sets as checked
@@ -17,7 +17,7 @@ writing_layers = OfTarget one.Limits ∷ OfTarget one.Room ∷ []
 
 -- of a set of so many, in the order in which they are tried
 abbrev pub layers : ℕ → List Layer
-layers n = map OfSet (checked.layers n) ++ writing_layers
+layers n = map OfSet (checked.layers true n) ++ writing_layers
 
 -- a rule that the set breaks, and where
 abbrev pub Breaks : List (List ℕ) → Layer → Refusal → Type 0

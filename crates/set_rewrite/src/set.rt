@@ -1,5 +1,5 @@
 // The first assembly of a set, written anew.
-ghost use Rattle.std.specs.Prelude.{◌≡◌, ◌<◌, ◌^◌, ℕ, length, IfOk, OnOk};
+ghost use Rattle.std.specs.Prelude.{◌≡◌, ◌<◌, ◌^◌, ℕ, true, length, IfOk, OnOk};
 ghost use Rattle.cil_base.specs.Refusals.{OnRefused};
 ghost use Rattle.assembly_rewrite.specs.Rewrite.{KeepsRows};
 ghost use Rattle.set_check.specs.Sets.{bytes_at, bytes_of, files_from, IsSound};
@@ -14,7 +14,7 @@ use std::alloc::Global;
 /// Writes the first of the assemblies anew, which keep the rules of a set.
 fn rewrite_first(alloc: Global, set: &[Assembly<'_>]) -> Result<Bytes, Fault>
     requires numbered { set.now ≡ files_from 0 (bytes_of set.now) }
-    requires sound { IsSound (bytes_of set.now) }
+    requires sound { IsSound true (bytes_of set.now) }
     requires some { 0 < length set.now }
     ensures done { IfOk result (KeepsRows (bytes_at (bytes_of set.now) 0) 0) }
     ensures accepted { OnOk result (KeepsSetRules (bytes_of set.now)) }
@@ -34,7 +34,7 @@ pub fn rewrite_set(alloc: Global, files: &[Bytes]) -> Result<Bytes, Fault>
     ensures accepted { OnOk result (KeepsSetRules files.now) }
     ensures refused { OnRefused result (IsSetRefusal files.now) }
 {
-    let set = match checked_set(alloc, files) {
+    let set = match checked_set(alloc, files, true) {
         Ok(set) => set,
         Err(fault) => return Err(fault),
     };

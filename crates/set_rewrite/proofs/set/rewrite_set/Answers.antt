@@ -1,4 +1,4 @@
-use Rattle.std.proofs.Common.{◌≡◌, sym, ap, ◌∙◌, subst, length, List, ℕ, arith}
+use Rattle.std.proofs.Common.{◌≡◌, sym, ap, ◌∙◌, subst, length, List, ℕ, true, arith}
 use Rattle.std.specs.Prelude.{OnOk}
 use Rattle.cil_base.specs.Refusals.{OnRefused}
 use Rattle.cil_base.proofs.RefusalLaws.{IfRefused-weaker}
@@ -19,7 +19,7 @@ rewrite_first-requires-clause-numbered c =
 pub rewrite_first-requires-clause-sound : goal.rewrite_first-requires-clause-sound
 rewrite_first-requires-clause-sound c =
     let bytes = same_bytes c.args.files.now c.in-Ok.set.items c.as_slice.result.now c.in-Ok.ensures.ok c.as_slice.ensures.value in
-    subst IsSound (sym bytes) c.in-Ok.ensures.accepted
+    subst (IsSound true) (sym bytes) c.in-Ok.ensures.accepted
 
 pub rewrite_first-requires-clause-some : goal.rewrite_first-requires-clause-some
 rewrite_first-requires-clause-some c =
