@@ -18,7 +18,7 @@ fn list_answers(
     want: (u8, &[u8]),
 ) -> Result<bool, Fault> {
     let target = made(alloc, true, false)?;
-    let other = made_as(alloc, b"b", false, false)?;
+    let other = made_as(alloc, true, false, false)?;
     let mut store = MemStore::new(alloc, listed(alloc, failing.0)?);
     store.put_file("a.dll", &target)?;
     store.put_file("b.dll", &other)?;

@@ -64,9 +64,17 @@ fn finished(alloc: Global, builder: Builder) -> Result<Vec<u8>, Fault> {
     Ok(Vec::from_slice(alloc, bytes.as_slice())?)
 }
 
+/// The name of the first assembly, or of another one.
+fn add_name(builder: &mut Builder, is_other: bool) -> Result<u32, Fault> {
+    if is_other {
+        return builder.string(b"b");
+    }
+    builder.string(b"a")
+}
+
 /// Module, `<Module>` and Assembly rows; their name.
-fn add_rows(builder: &mut Builder, name: &[u8]) -> Result<u32, Fault> {
-    let name = builder.string(name)?;
+fn add_rows(builder: &mut Builder, is_other: bool) -> Result<u32, Fault> {
+    let name = add_name(builder, is_other)?;
     let module = builder.string(b"<Module>")?;
     add_module(builder, name)?;
     add_type(builder, module)?;
@@ -77,11 +85,11 @@ fn add_rows(builder: &mut Builder, name: &[u8]) -> Result<u32, Fault> {
 /// Rows, and where it is wanted a class with a method or a row of the namespace of Code Contracts.
 fn add_all(
     builder: &mut Builder,
-    name: &[u8],
+    is_other: bool,
     with_class: bool,
     with_contract: bool,
 ) -> Result<(), Fault> {
-    let name = add_rows(builder, name)?;
+    let name = add_rows(builder, is_other)?;
     if with_class {
         add_class(builder, name)?;
     }
@@ -136,7 +144,7 @@ pub(crate) enum Holder {
 /// The bytes of an assembly with a row that names this blob.
 pub(crate) fn with_blob(alloc: Global, holder: Holder, blob: &[u8]) -> Result<Vec<u8>, Fault> {
     let mut builder = Builder::new(alloc)?;
-    add_rows(&mut builder, b"a")?;
+    add_rows(&mut builder, false)?;
     match holder {
         Holder::Signature => {
             let signature = builder.blob(blob)?;
@@ -151,20 +159,20 @@ pub(crate) fn with_blob(alloc: Global, holder: Holder, blob: &[u8]) -> Result<Ve
     finished(alloc, builder)
 }
 
-/// The bytes of an assembly of this name.
+/// The bytes of an assembly, the first one or another.
 pub(crate) fn made_as(
     alloc: Global,
-    name: &[u8],
+    is_other: bool,
     with_class: bool,
     with_contract: bool,
 ) -> Result<Vec<u8>, Fault> {
     let mut builder = Builder::new(alloc)?;
-    add_all(&mut builder, name, with_class, with_contract)?;
+    add_all(&mut builder, is_other, with_class, with_contract)?;
     finished(alloc, builder)
 }
 
 pub(crate) fn made(alloc: Global, with_class: bool, with_contract: bool) -> Result<Vec<u8>, Fault> {
-    made_as(alloc, b"a", with_class, with_contract)
+    made_as(alloc, false, with_class, with_contract)
 }
 
 /// The bytes of an assembly of three rows, and where one is wanted, of a class with a method.

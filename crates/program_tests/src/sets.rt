@@ -20,8 +20,8 @@ fn put_other(alloc: Global, store: &mut MemStore, other: Other) -> Result<(), Fa
     match other {
         Other::Missing => {}
         Other::Empty => store.put_file("b.dll", b"")?,
-        Other::WithoutContracts => store.put_file("b.dll", &made_as(alloc, b"b", false, false)?)?,
-        Other::WithContracts => store.put_file("b.dll", &made_as(alloc, b"b", false, true)?)?,
+        Other::WithoutContracts => store.put_file("b.dll", &made_as(alloc, true, false, false)?)?,
+        Other::WithContracts => store.put_file("b.dll", &made_as(alloc, true, false, true)?)?,
     }
     Ok(())
 }
