@@ -99,7 +99,69 @@ pub struct Object {
     pub cells: Cells,
 }
 
-pub type Objects = Items<Object>;
+/// Objects of the heap, a list to contracts.
+#[derive(Drop)]
+pub struct Objects {
+    items: Vec<Object>,
+}
+
+impl Model for Objects {
+    ghost use Rattle.std.specs.Prelude.{List};
+    ghost use Rattle.std.specs.Coded.{codes};
+    ghost use Rattle.cil_semantics.specs.declared.state.Object.{Object};
+    ghost use Rattle.cil_model.specs.contracts.value.Value as value;
+    ghost use Rattle.cil_model.specs.contracts.ty.Ty as ty;
+
+    ghost Value = { List Object };
+
+    ghost coded = { Prim.hlevel (codes, value.the_row.coded, ty.the_row.coded) };
+
+    ghost view = { λ s. s.items.items };
+}
+
+impl Objects {
+    ghost use Rattle.std.specs.Prelude.{◌<◌, slice_get, slice_set, Option, Some, OnSome};
+    ghost use Rattle.std.specs.Option.{option_copied};
+    ghost use Rattle.cil_semantics.specs.declared.state.Cell.{Cell as CellOf};
+    ghost use Rattle.cil_semantics.specs.declared.state.Object.{Object as ObjectOf};
+
+    pub fn new(alloc: Global) -> Objects
+        ensures { result ≡ [] }
+    {
+        Objects {
+            items: Vec::new(alloc),
+        }
+    }
+
+    pub fn len(&self) -> usize
+        ensures { result ≡ length self.now }
+    {
+        self.items.len()
+    }
+
+    pub fn get(&self, at: usize) -> Option<&Object>
+        ensures value { option_copied result ≡ slice_get self.now at }
+        ensures within { OnSome result (at < length self.now) }
+    {
+        self.items.get(at)
+    }
+
+    pub fn push(&mut self, x: Object) -> Result<(), AllocError>
+        ensures ok { IfOk result (λ _. self.new ≡ self.old ++ x ∷ []) }
+    {
+        self.items.push(x)?;
+        Ok(())
+    }
+
+    /// Puts a value into a place of an object.
+    pub fn put(&mut self, object: usize, place: usize, value: Value)
+        requires object { object < length self.old }
+        requires place { (o : ObjectOf) → slice_get self.old object ≡ Some o → place < length o.cells }
+        ensures { (o : ObjectOf) (c : CellOf) → slice_get self.old object ≡ Some o → slice_get o.cells place ≡ Some c → self.new ≡ slice_set self.old object (record o { cells = slice_set o.cells place (record { ty = c.ty; value = value }) }) }
+    {
+        self.items[object].cells.put(place, value);
+    }
+}
 
 /// How far a type's initializer has come.
 #[derive(Clone, Copy)]
@@ -116,7 +178,69 @@ pub struct Statics {
     pub cells: Cells,
 }
 
-pub type StaticsList = Items<Statics>;
+/// The statics of closed types, a list to contracts.
+#[derive(Drop)]
+pub struct StaticsList {
+    items: Vec<Statics>,
+}
+
+impl Model for StaticsList {
+    ghost use Rattle.std.specs.Prelude.{List};
+    ghost use Rattle.std.specs.Coded.{codes};
+    ghost use Rattle.cil_semantics.specs.declared.state.Statics.{Statics};
+    ghost use Rattle.cil_model.specs.contracts.value.Value as value;
+    ghost use Rattle.cil_model.specs.contracts.ty.Ty as ty;
+
+    ghost Value = { List Statics };
+
+    ghost coded = { Prim.hlevel (codes, value.the_row.coded, ty.the_row.coded) };
+
+    ghost view = { λ s. s.items.items };
+}
+
+impl StaticsList {
+    ghost use Rattle.std.specs.Prelude.{◌<◌, slice_get, slice_set, Option, Some};
+    ghost use Rattle.cil_semantics.specs.declared.state.Cell.{Cell as CellOf};
+    ghost use Rattle.cil_semantics.specs.declared.state.Statics.{Statics as StaticsOf};
+
+    pub fn new(alloc: Global) -> StaticsList
+        ensures { result ≡ [] }
+    {
+        StaticsList {
+            items: Vec::new(alloc),
+        }
+    }
+
+    pub fn as_slice(&self) -> &[Statics]
+        ensures { result.now ≡ self.now }
+    {
+        self.items.as_slice()
+    }
+
+    pub fn push(&mut self, x: Statics) -> Result<(), AllocError>
+        ensures ok { IfOk result (λ _. self.new ≡ self.old ++ x ∷ []) }
+    {
+        self.items.push(x)?;
+        Ok(())
+    }
+
+    /// Puts a value into a static field of the type at a place of the list.
+    pub fn put(&mut self, owner: usize, place: usize, value: Value)
+        requires owner { owner < length self.old }
+        requires place { (s : StaticsOf) → slice_get self.old owner ≡ Some s → place < length s.cells }
+        ensures { (s : StaticsOf) (c : CellOf) → slice_get self.old owner ≡ Some s → slice_get s.cells place ≡ Some c → self.new ≡ slice_set self.old owner (record s { cells = slice_set s.cells place (record { ty = c.ty; value = value }) }) }
+    {
+        self.items[owner].cells.put(place, value);
+    }
+
+    /// Notes how far the initializer of the type at a place of the list has come.
+    pub fn set_init(&mut self, owner: usize, init: Init)
+        requires { owner < length self.old }
+        ensures { (s : StaticsOf) → slice_get self.old owner ≡ Some s → self.new ≡ slice_set self.old owner (record s { init = Some init }) }
+    {
+        self.items[owner].init = Some(init);
+    }
+}
 
 /// An outside call: the member's number besides what is told of it.
 #[derive(Drop)]
@@ -404,6 +528,14 @@ impl Replies {
         }
     }
 
+    /// Puts a reply before the others.
+    pub fn push(&mut self, x: Reply) -> Result<(), AllocError>
+        ensures ok { IfOk result (λ _. self.new ≡ x ∷ self.old) }
+    {
+        self.items.push(x)?;
+        Ok(())
+    }
+
     pub fn pop(&mut self) -> Option<Reply>
         ensures { MatchOption result ((self.old ≡ []) × (self.new ≡ [])) (λ x. self.old ≡ x ∷ self.new) }
     {
@@ -456,6 +588,15 @@ impl Frames {
         ensures { (f : FrameOf) (c : CellOf) → slice_get (reverse self.old) number ≡ Some f → slice_get f.local.locals place ≡ Some c → reverse self.new ≡ slice_set (reverse self.old) number (record f { local = record f.local { locals = slice_set f.local.locals place (record { ty = c.ty; value = value }) } }) }
     {
         self.items[number].local.locals.put(place, value);
+    }
+
+    /// Puts a value into an argument of the frame of a number.
+    pub fn put_argument(&mut self, number: usize, place: usize, value: Value)
+        requires frame { number < length self.old }
+        requires place { (f : FrameOf) → slice_get (reverse self.old) number ≡ Some f → place < length f.local.args }
+        ensures { (f : FrameOf) (c : CellOf) → slice_get (reverse self.old) number ≡ Some f → slice_get f.local.args place ≡ Some c → reverse self.new ≡ slice_set (reverse self.old) number (record f { local = record f.local { args = slice_set f.local.args place (record { ty = c.ty; value = value }) } }) }
+    {
+        self.items[number].local.args.put(place, value);
     }
 
     /// The frame of a number, counted from below, if it runs that method.
