@@ -58,29 +58,43 @@ pub fn row_shape(
     shape_of(alloc, coded, args, name, bytes)
 }
 
-/// Appends a list, each number behind a 1, and a 0 behind all.
-pub fn push_ended(key: &mut U32s, list: &[u8]) -> Result<(), AllocError>
-    ensures { OnOk result (key.new ≡ key.old ++ ended_list list.now) }
+/// Appends a list, each number as one more, and a 0 behind all.
+pub fn push_ended(key: &mut Vec<u32>, list: &[u8]) -> Result<(), AllocError>
+    ensures { OnOk result (key.new.items ≡ key.old.items ++ ended_list list.now) }
 {
     for n in list {
-        key.push(1)?;
-        key.push(*n as u32)?;
+        key.push(*n as u32 + 1)?;
     }
-    key.push(0)
+    key.push(0)?;
+    Ok(())
+}
+
+/// How many numbers the key of a member has.
+pub fn key_length(shape: &Shape) -> usize {
+    shape
+        .name
+        .len()
+        .saturating_add(shape.signature.len())
+        .saturating_add(3)
+}
+
+/// Appends the key of a member of a type.
+pub fn push_member(key: &mut Vec<u32>, owner: u32, shape: &Shape) -> Result<(), AllocError>
+    ensures { OnOk result (key.new.items ≡ key.old.items ++ member_key owner shape.now) }
+{
+    key.push(owner)?;
+    key.push(if shape.is_field { 1 } else { 0 })?;
+    push_ended(key, shape.name.as_slice())?;
+    key.extend_from_slice(shape.signature.as_slice())
 }
 
 /// The key of a member of a type.
 pub fn member_key(alloc: Global, owner: u32, shape: &Shape) -> Result<U32s, AllocError>
     ensures { IfOk result (λ key. key ≡ member_key owner shape.now) }
 {
-    let mut key = U32s::new(alloc);
-    key.push(owner)?;
-    key.push(if shape.is_field { 1 } else { 0 })?;
-    push_ended(&mut key, shape.name.as_slice())?;
-    for n in shape.signature.as_slice() {
-        key.push(*n)?;
-    }
-    Ok(key)
+    let mut key = Vec::with_capacity(alloc, key_length(shape))?;
+    push_member(&mut key, owner, shape)?;
+    Ok(U32s::from_vec(key))
 }
 
 pub fn owner_at(owners: &[u32], row: u32) -> Option<u32>

@@ -3,15 +3,17 @@ ghost use Rattle.std.specs.Prelude.{◌≡◌, ◌<◌, ◌^◌, length, [], ℕ
 ghost use Rattle.set_names.specs.Names.{number_under, noted};
 ghost use Rattle.set_names.specs.Names.{first_under};
 
+use crate::hasher::KeyHasher;
 use cil_base::U32s;
 use indexmap::IndexMap;
 use std::alloc::{AllocError, Global};
+use std::hash::BuildHasherDefault;
 use std::marker::Model;
 
 /// Keys with the number under which each was noted first.
 #[derive(Drop)]
 pub struct Keys {
-    numbers: IndexMap<Vec<u32>, u32>,
+    numbers: IndexMap<Vec<u32>, u32, BuildHasherDefault<KeyHasher>>,
 }
 
 impl Model for Keys {
@@ -27,7 +29,7 @@ impl Keys {
         ensures { result ≡ [] }
     {
         Keys {
-            numbers: IndexMap::new(alloc),
+            numbers: IndexMap::with_hasher(alloc, BuildHasherDefault::new()),
         }
     }
 

@@ -5,6 +5,7 @@
 mod assembly_members;
 mod bases;
 mod declaring;
+mod hasher;
 mod keys;
 mod outside;
 mod outside_member;

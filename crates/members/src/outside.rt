@@ -3,7 +3,7 @@ ghost use Rattle.std.specs.Prelude.{◌≡◌, ◌<◌, ◌^◌, ◌+◌, ◌++�
 ghost use Rattle.members.specs.Keys.{ended_list, member_key};
 ghost use Rattle.members.specs.OutsideMembers.{outside_key, member_place, added_member};
 
-use crate::declaring::{member_key, push_ended};
+use crate::declaring::{key_length, push_ended, push_member};
 use crate::keys::Keys;
 use crate::outside_member::OutsideMember;
 use cil_base::U32s;
@@ -34,10 +34,15 @@ impl Model for Outside {
 fn outside_key(alloc: Global, member: &OutsideMember) -> Result<U32s, AllocError>
     ensures { IfOk result (λ key. key ≡ outside_key member.now) }
 {
-    let mut key = U32s::new(alloc);
+    let room = member
+        .owner
+        .len()
+        .saturating_add(key_length(&member.shape))
+        .saturating_add(1);
+    let mut key = Vec::with_capacity(alloc, room)?;
     push_ended(&mut key, member.owner.as_slice())?;
-    key.append(member_key(alloc, 0, &member.shape)?)?;
-    Ok(key)
+    push_member(&mut key, 0, &member.shape)?;
+    Ok(U32s::from_vec(key))
 }
 
 impl Outside {
