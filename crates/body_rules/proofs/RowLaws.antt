@@ -1,6 +1,6 @@
 -- The first row whose body breaks a rule is the first refusal of an assembly, and the first such assembly of a set.
 use Rattle.std.proofs.Common.{◌≡◌, ◌∙◌, sym, subst, ap, refl, arith, rules, ℕ, ◌+◌, ◌-◌, ◌<◌, ◌≤◌, Bool, true, false, List, [], ◌∷◌, ◌++◌, length, get_or, Option, Some, None, Result}
-use Rattle.std.specs.Prelude.{IfSome, OnOk, nat_lt, nat_le, ◌==◌, slice_get, Vec}
+use Rattle.std.specs.Prelude.{IfSome, OnOk, nat_lt, nat_le, slice_get, Vec}
 use Rattle.std.specs.declared.alloc.Global.{Global}
 use Rattle.std.proofs.lemmas.List.{length-append, get_or-append_right, get_or_append_left}
 use Rattle.std.proofs.lemmas.Option.{slice_get_within}
@@ -116,20 +116,64 @@ later_assembly : (r q : Refusal) → r.assembly < q.assembly → is_less (key q)
 later_assembly r q more =
     not_less q.assembly r.assembly (q.table ∷ q.row ∷ q.at ∷ rule_number q.rule ∷ []) (r.table ∷ r.row ∷ r.at ∷ rule_number r.rule ∷ []) (omega (arith, more)) (λ same. absurd (omega (arith, more, same)))
 
+-- ---- the rows of an assembly, and the assemblies of a set, that break nothing so far
+
+abbrev pub RowsSoFar : Assemblies → ℕ → ℕ → Type 0
+RowsSoFar s a k = NoneBelow (InAssembly s a) (λ r. r.row) (k + 1)
+
+pub no_row_yet : (s : Assemblies) (a : ℕ) → RowsSoFar s a 0
+no_row_yet s a = λ q h below. let low = h.0.low in absurd (omega (arith, low, below))
+
+module _ (s : Assemblies) (a k : ℕ) (before : RowsSoFar s a k) where
+  pub row_more : NoneBroken (InRow s a (k + 1)) → RowsSoFar s a (k + 1)
+  row_more none = none_more (InAssembly s a) (λ r. r.row) (k + 1) before none
+
+  pub no_row : k ≡ count_in (assembly_at s a) METHOD_DEF → NoneBroken (InAssembly s a)
+  no_row e = λ r f.
+      let high : r.row ≤ count_in (assembly_at s a) METHOD_DEF = subst (λ (x : ℕ). r.row ≤ count_in (assembly_at s x) METHOD_DEF) f.1 f.0.high in
+      before r f (omega (arith, high, e))
+
+  pub row_first : (r : Refusal) → First (InRow s a (k + 1)) r → First (InAssembly s a) r
+  row_first r f = first_step (InAssembly s a) (λ q. q.row) (k + 1) r before behind f
+    where
+      behind : (q : Refusal) → InAssembly s a q → k + 1 < q.row → is_less (key q) (key r) ≡ false
+      behind q g more =
+          let at : r.row ≡ k + 1 = f.broken.1 in
+          later_row r q (g.1 ∙ sym f.broken.0.1) (g.0.table ∙ sym f.broken.0.0.table) (omega (arith, more, at))
+
+abbrev pub SetSoFar : Assemblies → ℕ → Type 0
+SetSoFar s k = NoneBelow (BreaksBodies s) (λ r. r.assembly) k
+
+pub no_assembly_yet : (s : Assemblies) → SetSoFar s 0
+no_assembly_yet s = λ q h below. absurd (omega (arith, below))
+
+module _ (s : Assemblies) (k : ℕ) (before : SetSoFar s k) where
+  pub assembly_more : NoneBroken (InAssembly s k) → SetSoFar s (k + 1)
+  assembly_more none = none_more (BreaksBodies s) (λ r. r.assembly) k before none
+
+  pub no_assembly : k ≡ length s → NoneBroken (BreaksBodies s)
+  no_assembly e = λ r f. let there = f.assembly_there in before r f (omega (arith, there, e))
+
+  pub assembly_first : (r : Refusal) → First (InAssembly s k) r → First (BreaksBodies s) r
+  assembly_first r f = first_step (BreaksBodies s) (λ q. q.assembly) k r before behind f
+    where
+      behind : (q : Refusal) → BreaksBodies s q → k < q.assembly → is_less (key q) (key r) ≡ false
+      behind q g more = let at : r.assembly ≡ k = f.broken.1 in later_assembly r q (omega (arith, more, at))
+
 -- ---- the rows of an assembly so far
 
 pub record SoFar (s : Assemblies) (a k : ℕ) (bodies : List (Option Body)) : Type 0 where
   pub count : length bodies ≡ k
   pub rows : (row : ℕ) → 1 ≤ row → row ≤ k → IsBodyAt (assembly_at s a).bytes a (rva_of (assembly_at s a) row) (get_or bodies (row - 1) None)
   pub valid : (row : ℕ) → 1 ≤ row → row ≤ k → IfSome (get_or bodies (row - 1) None) (IsValid a)
-  pub none : NoneBelow (InAssembly s a) (λ r. r.row) (k + 1)
+  pub none : RowsSoFar s a k
 
 pub none_yet : (s : Assemblies) (a : ℕ) → SoFar s a 0 []
 none_yet s a = record {
   count = refl;
   rows = λ row low high. absurd (omega (arith, low, high));
   valid = λ row low high. absurd (omega (arith, low, high));
-  none = λ q h below. let low = h.0.low in absurd (omega (arith, low, below));
+  none = no_row_yet s a;
 }
 
 module _ (s : Assemblies) (a k : ℕ) (bodies : List (Option Body)) (h : SoFar s a k bodies) where
@@ -150,7 +194,7 @@ module _ (s : Assemblies) (a k : ℕ) (bodies : List (Option Body)) (h : SoFar s
     rows = by_row (λ row. IsBodyAt (assembly_at s a).bytes a (rva_of (assembly_at s a) row) (get_or bodies' (row - 1) None)) last before;
     valid = by_row (λ row. IfSome (get_or bodies' (row - 1) None) (IsValid a)) (subst (λ (o : Option Body). IfSome o (IsValid a)) (sym at_end) valid)
         (λ row low high. subst (λ (o : Option Body). IfSome o (IsValid a)) (kept row low high) (h.valid row low high));
-    none = none_more (InAssembly s a) (λ r. r.row) (k + 1) h.none none;
+    none = row_more s a k h.none none;
   }
     where
       at_end : get_or bodies' ((k + 1) - 1) None ≡ body
@@ -172,27 +216,20 @@ module _ (s : Assemblies) (a k : ℕ) (bodies : List (Option Body)) (h : SoFar s
   all_rows e = record { count = h.count ∙ e; rows = λ row low high. h.rows row low (omega (arith, high, e)); valid = λ row low high. h.valid row low (omega (arith, high, e)) }
 
   pub none_of_rows : k ≡ count_in (assembly_at s a) METHOD_DEF → NoneBroken (InAssembly s a)
-  none_of_rows e = λ r f.
-      let high : r.row ≤ count_in (assembly_at s a) METHOD_DEF = subst (λ (x : ℕ). r.row ≤ count_in (assembly_at s x) METHOD_DEF) f.1 f.0.high in
-      h.none r f (omega (arith, high, e))
+  none_of_rows e = no_row s a k h.none e
 
   pub first_row : (r : Refusal) → First (InRow s a (k + 1)) r → First (InAssembly s a) r
-  first_row r f = first_step (InAssembly s a) (λ q. q.row) (k + 1) r h.none behind f
-    where
-      behind : (q : Refusal) → InAssembly s a q → k + 1 < q.row → is_less (key q) (key r) ≡ false
-      behind q g more =
-          let at : r.row ≡ k + 1 = f.broken.1 in
-          later_row r q (g.1 ∙ sym f.broken.0.1) (g.0.table ∙ sym f.broken.0.0.table) (omega (arith, more, at))
+  first_row r f = row_first s a k h.none r f
 
 -- ---- the assemblies of a set so far
 
 pub record AllSoFar (s : Assemblies) (k : ℕ) (all : List (Vec (Option Body) Global)) : Type 0 where
   pub count : length all ≡ k
   pub each : (a : ℕ) → a < k → (bodies : Vec (Option Body) Global) → slice_get all a ≡ Some bodies → AreBodies (assembly_at s a) (assembly_at s a).bytes a bodies.items
-  pub none : NoneBelow (BreaksBodies s) (λ r. r.assembly) k
+  pub none : SetSoFar s k
 
 pub none_of_set : (s : Assemblies) → AllSoFar s 0 []
-none_of_set s = record { count = refl; each = λ a below bodies e. absurd (omega (arith, below)); none = λ q h below. absurd (omega (arith, below)) }
+none_of_set s = record { count = refl; each = λ a below bodies e. absurd (omega (arith, below)); none = no_assembly_yet s }
 
 module _ (s : Assemblies) (k : ℕ) (all : List (Vec (Option Body) Global)) (h : AllSoFar s k all) where
   some_same : (x y : Vec (Option Body) Global) (o : Option (Vec (Option Body) Global)) → o ≡ Some x → o ≡ Some y → x ≡ y
@@ -202,7 +239,7 @@ module _ (s : Assemblies) (k : ℕ) (all : List (Vec (Option Body) Global)) (h :
   one_assembly all' bodies e are none = record {
     count = ap length e ∙ length-append all (bodies ∷ []) ∙ ap (λ (n : ℕ). n + 1) h.count;
     each = λ a below other at. go a below other at (nat_lt a k) refl;
-    none = none_more (BreaksBodies s) (λ r. r.assembly) k h.none none;
+    none = assembly_more s k h.none none;
   }
     where
       go : (a : ℕ) → a < k + 1 → (other : Vec (Option Body) Global) → slice_get all' a ≡ Some other → (b : Bool) → nat_lt a k ≡ b → AreBodies (assembly_at s a) (assembly_at s a).bytes a other.items
@@ -224,10 +261,7 @@ module _ (s : Assemblies) (k : ℕ) (all : List (Vec (Option Body) Global)) (h :
       within a bodies at = let inside = slice_get_within all a bodies at in omega (arith, inside, h.count)
 
   pub none_of_assemblies : k ≡ length s → NoneBroken (BreaksBodies s)
-  none_of_assemblies e = λ r f. let there = f.assembly_there in h.none r f (omega (arith, there, e))
+  none_of_assemblies e = no_assembly s k h.none e
 
   pub first_assembly : (r : Refusal) → First (InAssembly s k) r → First (BreaksBodies s) r
-  first_assembly r f = first_step (BreaksBodies s) (λ q. q.assembly) k r h.none behind f
-    where
-      behind : (q : Refusal) → BreaksBodies s q → k < q.assembly → is_less (key q) (key r) ≡ false
-      behind q g more = let at : r.assembly ≡ k = f.broken.1 in later_assembly r q (omega (arith, more, at))
+  first_assembly r f = assembly_first s k h.none r f

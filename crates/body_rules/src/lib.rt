@@ -10,4 +10,4 @@ mod rows;
 mod sets;
 
 pub use method::checked_body;
-pub use sets::set_bodies;
+pub use sets::{check_set_bodies, set_bodies};

@@ -100,3 +100,55 @@ pub fn assembly_bodies(
     }
     Ok(bodies)
 }
+
+/// Whether the body of the method of a MethodDef row breaks a rule. It isn't kept.
+fn check_row(
+    alloc: Global,
+    image: &Image<'_>,
+    rows: &Rows<'_>,
+    tables: &SetTables<'_>,
+    program: &Program,
+    a: u32,
+    row: u32,
+) -> Result<(), Fault>
+    requires short { length image.now.bytes < 2 ^ 32 }
+    requires there { a < length tables.now }
+    requires rows { rows.now ≡ assembly_at tables.now a }
+    requires image { image.now.bytes ≡ (assembly_at tables.now a).bytes }
+    requires program { program.now ≡ program_of tables.now }
+    requires low { 1 ≤ row }
+    requires high { row ≤ count_in (assembly_at tables.now a) METHOD_DEF }
+    ensures accepted { OnOk result (NoneBroken (InRow tables.now a row)) }
+    ensures refused { OnRefused result (First (InRow tables.now a row)) }
+{
+    match row_body(alloc, image, rows, tables, program, a, row) {
+        Ok(_) => Ok(()),
+        Err(fault) => Err(fault),
+    }
+}
+
+/// Whether the bodies of the methods of assembly number `a` break a rule. One stands at a time.
+pub fn check_rows(
+    alloc: Global,
+    image: &Image<'_>,
+    rows: &Rows<'_>,
+    tables: &SetTables<'_>,
+    program: &Program,
+    a: u32,
+) -> Result<(), Fault>
+    requires short { length image.now.bytes < 2 ^ 32 }
+    requires there { a < length tables.now }
+    requires rows { rows.now ≡ assembly_at tables.now a }
+    requires image { image.now.bytes ≡ (assembly_at tables.now a).bytes }
+    requires program { program.now ≡ program_of tables.now }
+    ensures accepted { OnOk result (NoneBroken (InAssembly tables.now a)) }
+    ensures refused { OnRefused result (First (InAssembly tables.now a)) }
+{
+    for k in 0..rows.count(METHOD_DEF) {
+        match check_row(alloc, image, rows, tables, program, a, k + 1) {
+            Ok(()) => {}
+            Err(fault) => return Err(fault),
+        }
+    }
+    Ok(())
+}

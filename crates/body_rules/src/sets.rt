@@ -8,7 +8,7 @@ ghost use Rattle.descriptions.specs.Programs.{program_of};
 ghost use Rattle.method_bodies.specs.Rows.{AreBodies};
 ghost use Rattle.body_rules.specs.Sets.{AreAllBodies, BreaksBodies, InAssembly};
 
-use crate::rows::assembly_bodies;
+use crate::rows::{assembly_bodies, check_rows};
 use assembly::Assembly;
 use cil_base::Fault;
 use cil_model::{Body, Program};
@@ -74,4 +74,47 @@ pub fn set_bodies<'a>(
         }
     }
     Ok(all)
+}
+
+/// Whether the bodies of the methods of one assembly, which is number `a`, break a rule.
+fn check_assembly(
+    alloc: Global,
+    assembly: &Assembly<'_>,
+    tables: &SetTables<'_>,
+    program: &Program,
+    a: u32,
+) -> Result<(), Fault>
+    requires short { length assembly.now.bytes < 2 ^ 32 }
+    requires there { a < length tables.now }
+    requires assembly { assembly_at tables.now a ≡ assembly_of assembly.now.bytes }
+    requires program { program.now ≡ program_of tables.now }
+    ensures accepted { OnOk result (NoneBroken (InAssembly tables.now a)) }
+    ensures refused { OnRefused result (First (InAssembly tables.now a)) }
+{
+    let rows = Rows::new(assembly);
+    check_rows(alloc, assembly.image(), &rows, tables, program, a)
+}
+
+/// The rules on the bodies of all methods of a set, as `set_bodies` tries them, where no body is
+/// kept: one stands at a time.
+pub fn check_set_bodies<'a>(
+    alloc: Global,
+    set: &'a [Assembly<'a>],
+    tables: &SetTables<'a>,
+    program: &Program,
+) -> Result<(), Fault>
+    requires few { length set.now < 2 ^ 32 }
+    requires short { (k : ℕ) (file : File) → slice_get set.now k ≡ Some file → length file.bytes < 2 ^ 32 }
+    requires tables { tables.now ≡ assemblies_of set.now }
+    requires program { program.now ≡ program_of tables.now }
+    ensures accepted { OnOk result (NoneBroken (BreaksBodies tables.now)) }
+    ensures refused { OnRefused result (First (BreaksBodies tables.now)) }
+{
+    for a in 0..set.len() {
+        match check_assembly(alloc, &set[a], tables, program, a as u32) {
+            Ok(()) => {}
+            Err(fault) => return Err(fault),
+        }
+    }
+    Ok(())
 }
