@@ -1,15 +1,11 @@
--- One more handler of blocks that are there, and searches in them (ECMA-335, I.12.4.2.5 and I.12.4.2.7).
+-- One more handler of blocks that are there (ECMA-335, I.12.4.2.5 and I.12.4.2.7).
 use Rattle.std.specs.Prelude.{◌≡◌, ℕ, ◌+◌, List, length}
 use Rattle.cil_model.specs.declared.body.Region.{Region}
 use Rattle.cil_model.specs.declared.body.RegionKind.{RegionKind}
 use Rattle.cil_model.specs.declared.tree.Block.{Block}
 use Rattle.cil_model.specs.declared.tree.Handler.{Handler}
-use Rattle.region_tree.specs.Handlers.{guards, tree_guards}
+pub use Rattle.region_tree.specs.Handlers.{SearchesLike}
 use Rattle.region_tree.specs.Trees.{code, handler_parts, handlers_code}
-
--- A search from any place takes the same handlers in the blocks and in the table.
-abbrev pub SearchesLike : List Block → List Region → Type 0
-SearchesLike bs rs = (q : ℕ) → tree_guards 0 q bs ≡ guards q rs
 
 -- the clause of a try behind some code, with some handlers before its own
 abbrev pub clause_behind : RegionKind → (front inner : List Block) → List Handler → (own : List Block) → Region

@@ -13,8 +13,7 @@ use Rattle.cil_model.specs.declared.tree.Block.TheFolds.{fold-Block, fold-Handle
 use Rattle.cil_model.specs.declared.tree.Block.{Block, map-Block, roll-Block}
 use Rattle.cil_model.specs.declared.tree.Handler.{Handler, Handler-F, map-Handler, roll-Handler}
 use Rattle.cil_semantics.specs.Unwind.{in_try}
-use Rattle.body_tree.specs.Alike.{SearchAlike}
-use Rattle.region_tree.specs.Handlers.{guards, Guarding, HandlerGuarding, sizes, handler_sizes, guards_among, guards_in_handlers, own_guards, block_guarding, handler_guarding, tree_guards}
+use Rattle.region_tree.specs.Handlers.{guards, Guarding, HandlerGuarding, sizes, handler_sizes, guards_among, guards_in_handlers, own_guards, block_guarding, handler_guarding, tree_guards, SearchesLike}
 use Rattle.region_tree.specs.Trees.{Part, HandlerPart, joined_code, joined_clauses, handlers_code, handlers_clauses, own_clauses, block_part, handler_part, part, clauses}
 
 -- a part of a tree by its guards and by its clauses: no clause guards a place outside of it
@@ -263,5 +262,5 @@ tree_search at q bs h = joined_within (blocks_agree bs) at q h
 pub none_before : (at q : ℕ) (bs : List Block) → q < at → guards q (clauses at bs) ≡ []
 none_before at q bs h = joined_before (blocks_agree bs) at q h
 
-pub search_alike : (bs : List Block) (rs : List Region) → rs ≡ clauses 0 bs → SearchAlike bs rs
-search_alike bs rs e = λ q. tree_search 0 q bs (omega arith) ∙ ap (guards q) (sym e)
+pub searches_like : (bs : List Block) (rs : List Region) → rs ≡ clauses 0 bs → SearchesLike bs rs
+searches_like bs rs e = λ q. tree_search 0 q bs (omega arith) ∙ ap (guards q) (sym e)

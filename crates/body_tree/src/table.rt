@@ -1,6 +1,6 @@
 // Trees as tables of clauses.
 ghost use Rattle.std.specs.Prelude.{◌≡◌, ◌++◌, ◌+◌, ◌<◌, ◌^◌, [], length, OnOk, IfOk};
-ghost use Rattle.body_tree.specs.Alike.{SearchAlike};
+ghost use Rattle.region_tree.specs.Handlers.{SearchesLike};
 ghost use Rattle.region_tree.specs.Trees.{body_of_tree, clauses, code, handler_parts, handlers_clauses, handlers_code, own_clauses, part};
 
 use crate::size::behind;
@@ -86,10 +86,10 @@ fn put_handlers(
 
 /// The body that a tree stands for (ECMA-335, II.25.4.6). Inner clauses come first, and no offsets are
 /// given. For a tree of 2^32 instructions and more the answer is out of memory.
-#[tactic(auto, using(crate::proofs::GuardLaws::search_alike))]
+#[tactic(auto, using(crate::proofs::GuardLaws::searches_like))]
 pub fn to_clauses(alloc: Global, tree: &Tree) -> Result<Body, AllocError>
     ensures body { IfOk result (λ body. body ≡ body_of_tree tree.now) }
-    ensures search { IfOk result (λ body. SearchAlike tree.now.blocks body.regions) }
+    ensures search { IfOk result (λ body. SearchesLike tree.now.blocks body.regions) }
 {
     let mut regions = Regions::new(alloc);
     put_blocks(alloc, tree.blocks.as_slice(), 0, &mut regions)?;

@@ -1,5 +1,5 @@
 -- The handlers that a search from a place takes, in a table and in a tree (ECMA-335, I.12.4.2.5).
-use Rattle.std.specs.Prelude.{ℕ, ◌+◌, nat_lt, List, [], ◌∷◌, ◌++◌, length, filter, map, if◌then◌else◌}
+use Rattle.std.specs.Prelude.{◌≡◌, ℕ, ◌+◌, nat_lt, List, [], ◌∷◌, ◌++◌, length, filter, map, if◌then◌else◌}
 use Rattle.cil_model.specs.declared.body.Region.{Region}
 use Rattle.cil_model.specs.declared.body.RegionKind.{RegionKind}
 use Rattle.cil_model.specs.declared.tree.Block.{Block}
@@ -61,3 +61,7 @@ handler_guarding h = record { kind = h.kind; size = sizes h.blocks; guards = λ 
 -- the handlers that guard a place of the blocks, of which the first begins at a place
 abbrev pub tree_guards : (at q : ℕ) → List Block → List Region
 tree_guards at q bs = guards_among at q (map (λ b. fold-Block Guarding HandlerGuarding block_guarding handler_guarding b) bs)
+
+-- A search from any place takes the same handlers in the same order, be it in the blocks or in the table.
+abbrev pub SearchesLike : List Block → List Region → Type 0
+SearchesLike bs rs = (q : ℕ) → tree_guards 0 q bs ≡ guards q rs
