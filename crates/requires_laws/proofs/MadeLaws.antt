@@ -40,23 +40,23 @@ use Rattle.cil_semantics.specs.Calls.{Constructor, core_of, make, make_core, mak
 use Rattle.cil_semantics.specs.ContractCalls.{has_message}
 use Rattle.cil_semantics.specs.Checks.{AddedNumbers, Failure, Condition, condition_in, condition_from, bool_in, kind_number, label_text, number_value, Sequel, failing, reported, replied, fail_with, throw_exception, throw_outside, made_type}
 use Rattle.machine_laws.specs.Same.{most_clauses, plain_step}
-use Rattle.splice_facts.specs.Comes.{Comes}
+use Rattle.splice_facts.specs.Comes.{Comes, Goes}
 use Rattle.splice_facts.specs.Grown.{grow, beside}
 use Rattle.splice_facts.specs.Layout.{Depths, Marks, Keeps, IsHere}
-use Rattle.splice_facts.specs.Spliced.{Paired, Throws_next, checking, twin, from_here, clause_failure, failure_cost, cost}
+use Rattle.splice_facts.specs.Spliced.{Paired, Throws_next, checking, twin, from_here, clause_failure, failure_cost, cost, Checked}
 use Rattle.splice_laws.specs.Straight.{ldc, ldloc, stloc, ldnull, ldstr, dup, pop, brtrue, brfalse, call, newobj, throw, frame_at, at_place, StandAt, Does, Acts_so}
 use Rattle.splice_laws.specs.HelperRuns.{HelpersRun}
 use Rattle.splice_laws.specs.EntryCode.{GroupFrame, stores, bool_ty}
 use Rattle.splice_laws.specs.Fails.{FitsFail}
-use Rattle.splice_facts.proofs.ComesLaws.{no_plan, comes_at_once, comes_on, comes_within, arrives_plain}
-use Rattle.splice_laws.proofs.StraightLaws.{one_step, goes_one, jumps_one, steps_by, arrives_at, world_back, does_ldc, does_ldnull, does_ldloc, does_dup, does_pop, does_ldstr, tests_brtrue, tests_brfalse, acts_throw, called}
+use Rattle.splice_facts.proofs.ComesLaws.{no_plan, comes_at_once, comes_on, comes_within, arrives_plain, moves_behind, moves_within}
+use Rattle.splice_laws.proofs.StraightLaws.{one_step, goes_one, jumps_one, steps_by, arrives_at, world_back, does_ldc, does_ldnull, does_ldloc, does_dup, does_pop, does_ldstr, tests_brtrue, tests_brfalse, acts_throw, called, first_step}
 use Rattle.splice_laws.proofs.SeamLocalLaws.{get_set_same, get_set_other, CellOf, cell_of, keeps_set}
 use Rattle.splice_laws.proofs.LeavingLaws.{unwind_told}
 use Rattle.splice_laws.proofs.AskLaws.{Refers, RefersTo}
 use Rattle.splice_laws.proofs.CheckLaws.{cut_truth, stored_twice, null_stored, bool_holds, string_holds, typed_cell, text_here, base, at_me, seam_get, seam_store}
 use Rattle.splice_laws.proofs.StuckCheckLaws.{stuck_at}
 use Rattle.requires_laws.specs.ReportCode.{asked, on_reply}
-use Rattle.requires_laws.specs.MadeCode.{makes_code, made_code, MadeAt, MadeCode, MadeChecked, MadeSeams}
+use Rattle.requires_laws.specs.MadeCode.{makes_code, made_code, MadeAt, MadeCode, MadeSeams}
 use Rattle.requires_laws.proofs.ReportLaws.{reply_refers}
 
 null_falls : truth Null ≡ Some false
@@ -261,7 +261,7 @@ module _ (p : Program) (k : Contracts) (p' : Program) (g : AddedNumbers) (n : �
     from_stack st es = ap (λ y. at_place (the_base f b) (with_stack (grow ex f.local) y) S [] fs' WW) (sym es)
 
     abbrev Check : Condition → Type 0
-    Check y = MadeChecked p k p' g n depths r me plan m gr e f fs fs' w ex ss b (clause_failure p k p' g n depths f fs x y.user) y.holds y.rest B
+    Check y = Checked p k p' g n depths m f fs fs' w ex ss b [] (clause_failure p k p' g n depths f fs x y.user) y.holds y.rest B
 
     belongs_to : (t : ℕ) → S ≤ t → t < B → IsTrue (m.belongs f.at t)
     belongs_to t lo hi = subst (λ y. IsTrue (m.belongs y t)) (sym at) (z.belongs t (subst (λ y. m.places y ≤ t) at lo) hi)
@@ -296,8 +296,8 @@ module _ (p : Program) (k : Contracts) (p' : Program) (g : AddedNumbers) (n : �
           belongs = seam_belongs A;
           maker = C + 1 + 1 + 1;
           maker_belongs = belongs_to (C + 1 + 1 + 1) (omega (arith, after)) (omega (arith, len));
-          made = λ y. throws_made C ((((tail.1).1).1).1).0 (belongs_to (C + 1 + 1 + 1 + 1) (omega (arith, after)) (omega (arith, len))) y;
-          comes = comes_within p' (n0 + 18) (failure_cost k p) _ _ (omega (arith, many, le)) (comes_on p' n0 18 _ _ _ come runs_on);
+          made = λ kd y. throws_made C ((((tail.1).1).1).1).0 (belongs_to (C + 1 + 1 + 1 + 1) (omega (arith, after)) (omega (arith, len))) y;
+          goes = moves_within p' (n0 + 18) (failure_cost k p) _ _ (omega (arith, many, le)) (moves_behind p' n0 18 _ _ _ come runs_on);
         }
       where
         ex2 : List Cell
@@ -354,9 +354,9 @@ module _ (p : Program) (k : Contracts) (p' : Program) (g : AddedNumbers) (n : �
             (goes_one p' F (with_stack L (uv ∷ number_value X ∷ rest)) (with_stack L (label_text X ∷ uv ∷ number_value X ∷ rest)) (S1 + 1 + 1 + 1 + 1 + 1) [] fs' WW (ldstr r.assembly (e.label x)) (at_mine (S1 + 1 + 1 + 1 + 1 + 1) _ (((((stand.1).1).1).1).1).0) (does_ldstr p' here r.assembly (e.label x) (text_units X.label) (with_stack L (uv ∷ number_value X ∷ rest)) (text_here p' here r.assembly (e.label x) (text_units X.label) (e.labelled j x there_is))) refl)
             (failed_so f fs fs' WW b a j q x i z of_e uv ref fit ex2 rest C tail last_is))))
 
-        runs_on : Comes p' 18 (at_place F (with_stack (grow ex1 f.local) (v ∷ rest)) S1 [] fs' WW) (checking p' g k.settings.throwing X T (bool_in (out-Value x0)) fs' WW)
+        runs_on : Goes p' 18 (at_place F (with_stack (grow ex1 f.local) (v ∷ rest)) S1 [] fs' WW) (checking p' g k.settings.throwing X T (bool_in (out-Value x0)) fs' WW)
         runs_on =
-            one_step p' F (with_stack (grow ex1 f.local) (v ∷ rest)) S1 [] fs' WW 17 _ _
+            first_step p' F (with_stack (grow ex1 f.local) (v ∷ rest)) S1 [] fs' WW 17 _ _
             (goes_one p' F (with_stack (grow ex1 f.local) (v ∷ rest)) (with_stack L rest) S1 [] fs' WW (stloc E.tools.condition) (at_mine S1 _ stand.0) (seam_store p k p' g n depths r me m E here f.local ex1 E.tools.condition E.condition_at bool_ty (Truncated B8 false) v x0 rest kp.wide kp.caps E.condition_is o (bool_holds p') tt sx) refl)
             (one_step p' F (with_stack L rest) (S1 + 1) [] fs' WW 16 _ _
             (goes_one p' F (with_stack L rest) (with_stack L (x0 ∷ rest)) (S1 + 1) [] fs' WW (ldloc E.tools.condition) (at_mine (S1 + 1) _ (stand.1).0) (does_ldloc p' here E.tools.condition (typed_cell p' bool_ty x0) (with_stack L rest) (seam_get p k p' g n depths r me m E f.local ex2 E.tools.condition E.condition_at (typed_cell p' bool_ty x0) kp.wide kp.caps E.condition_is (get_set_same ex1 E.condition_at o.cell (typed_cell p' bool_ty x0) o.there))) refl)

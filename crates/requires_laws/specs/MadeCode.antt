@@ -2,7 +2,6 @@
 use Rattle.std.specs.Prelude.{◌≡◌, ℕ, ◌+◌, ◌<◌, ◌≤◌, Bool, true, false, List, [], ◌∷◌, length, slice_get, Some, None, IsTrue, option_and_then, pos}
 use Rattle.cil_base.specs.declared.token.Token.{Token}
 use Rattle.cil_model.specs.declared.ty.Ty.{Ty, out-Ty, Known}
-use Rattle.cil_model.specs.declared.value.Value.{Value}
 use Rattle.cil_model.specs.declared.body.Instr.{Instr}
 use Rattle.cil_model.specs.declared.contract.ClauseKind.{ClauseKind}
 use Rattle.cil_model.specs.declared.contract.ClauseKind.TheVariants as kind
@@ -10,28 +9,26 @@ use Rattle.cil_model.specs.declared.contract.Contracts.{Contracts}
 use Rattle.cil_model.specs.declared.contract.Group.{Group}
 use Rattle.cil_model.specs.declared.program.Program.{Program}
 use Rattle.cil_model.specs.declared.program.Meaning.TheVariants.{OfMethod}
-use Rattle.cil_model.specs.NoContracts.{no_contracts}
 use Rattle.cil_semantics.specs.Lookups.{in_set}
-use Rattle.cil_semantics.specs.State.{with_stack}
 use Rattle.cil_semantics.specs.declared.state.Cell.{Cell}
 use Rattle.cil_semantics.specs.declared.state.World.{World}
 use Rattle.cil_semantics.specs.declared.state.Statics.{Statics}
-use Rattle.cil_semantics.specs.declared.state.ProgramPoint.TheVariants.{InGroup, Rest}
+use Rattle.cil_semantics.specs.declared.state.ProgramPoint.TheVariants.{InGroup}
 use Rattle.cil_semantics.specs.declared.state.Frame.{Frame}
 use Rattle.cil_semantics.specs.declared.state.Continuation.{Continuation}
 use Rattle.cil_semantics.specs.Tokens.{Here, ref_type, meaning_of, meaning_here, nests_little}
 use Rattle.cil_semantics.specs.Acts.{arity}
 use Rattle.cil_semantics.specs.Contracted.{Piece, Plan}
-use Rattle.cil_semantics.specs.Unwind.{body_of, here_of, piece_at, goes_at, unwind}
+use Rattle.cil_semantics.specs.Unwind.{body_of, piece_at}
 use Rattle.cil_semantics.specs.Frames.{stuck}
-use Rattle.cil_semantics.specs.Calls.{core_of, Constructor, is_core_exception, make, pushes_new}
+use Rattle.cil_semantics.specs.Calls.{core_of, Constructor, is_core_exception}
 use Rattle.cil_semantics.specs.ContractCalls.{contract_call, has_message}
 use Rattle.cil_semantics.specs.declared.contract_call.ContractCall.TheVariants.{EndsClause}
-use Rattle.cil_semantics.specs.Checks.{AddedNumbers, Failure, Condition, condition_in, kind_number}
+use Rattle.cil_semantics.specs.Checks.{AddedNumbers, Condition, condition_in, kind_number}
 use Rattle.splice_facts.specs.Comes.{Comes}
-use Rattle.splice_facts.specs.Grown.{grow, beside}
-use Rattle.splice_facts.specs.Layout.{Depths, Marks, Keeps, IsHere}
-use Rattle.splice_facts.specs.Spliced.{Paired, Throws_next, checking, twin, from_here, clause_failure, failure_cost, cost}
+use Rattle.splice_facts.specs.Grown.{beside}
+use Rattle.splice_facts.specs.Layout.{Depths, Marks, IsHere}
+use Rattle.splice_facts.specs.Spliced.{Paired, from_here, clause_failure, cost, Checked}
 use Rattle.splice_laws.specs.Straight.{ldc, ldloc, stloc, ldnull, ldstr, dup, pop, brtrue, brfalse, call, newobj, throw, StandAt}
 use Rattle.splice_laws.specs.HelperRuns.{HelpersRun}
 use Rattle.splice_laws.specs.EntryCode.{Tools, GroupFrame}
@@ -74,28 +71,9 @@ module _ (p : Program) (k : Contracts) (p' : Program) (g : AddedNumbers) (n : �
     pub runs : ReportRuns p' g depths.owner report
     pub ends : (j q : ℕ) (x : Piece) (i : Instr) (kd : ClauseKind) → IsHere (Some plan) (InGroup gr j q) → piece_at (Some plan) gr j ≡ Some x → x.clause.kind ≡ kind.RequiresOf → slice_get x.clause.instrs q ≡ Some i → contract_call p i ≡ EndsClause kd → MadeAt report_token j q x i
 
-  -- As `Checked`, with a place where the exception is made besides the one from where it is thrown.
-  pub record MadeChecked (f : Frame) (fs fs' : List Frame) (w : World) (ex : List Cell) (ss : List Statics) (b : Continuation) (x : Failure) (holds : Bool) (rest : List Value) (on : ℕ) : Type 0 where
-    pub after : List Cell
-    pub keeps : Keeps m (here_of f fs) f.thrown f.local after
-    pub seam : ℕ
-    pub belongs : IsTrue (m.belongs f.at seam)
-    pub maker : ℕ
-    pub maker_belongs : IsTrue (m.belongs f.at maker)
-    pub made : (y : ℕ) → Throws_next p k p' g n depths m f maker y
-    pub comes : Comes p' (failure_cost k p) (from_here p k p' g n depths m f ex b fs' w ss [])
-        (checking p' g k.settings.throwing x
-        (record {
-          passes = λ v. goes_at p' (twin p k p' g n depths f (with_stack f.local rest) after on [] b) (Rest on) (grow after (with_stack f.local rest)) [] fs' v;
-          throws = λ v y. unwind p' no_contracts false (twin p k p' g n depths f (with_stack f.local rest) after seam [] b ∷ fs') v y;
-          makes = λ v ty c values. make p' no_contracts (pushes_new p' no_contracts) ty c values (twin p k p' g n depths f (with_stack f.local rest) after maker [] b ∷ fs') v;
-          stops = λ v. stuck v;
-        })
-        holds fs' (beside ss w))
-
   -- what is asked of the end of such a clause
   pub record MadeSeams : Type 0 where
     pub made : (j q : ℕ) (x : Piece) (i : Instr) (kd : ClauseKind) (c : Condition) (f : Frame) (fs fs' : List Frame) (w : World) (ex : List Cell) (ss : List Statics) (b : Continuation) → f.method ≡ me → f.at ≡ InGroup gr j q → IsHere (Some plan) f.at → piece_at (Some plan) gr j ≡ Some x → x.clause.kind ≡ kind.RequiresOf → slice_get x.clause.instrs q ≡ Some i → contract_call p i ≡ EndsClause kd → Paired p k p' g n depths m f fs fs' w ex ss
-        → condition_in (has_message p i) f.local.stack ≡ Some c → MadeChecked f fs fs' w ex ss b (clause_failure p k p' g n depths f fs x c.user) c.holds c.rest (m.behind gr j)
+        → condition_in (has_message p i) f.local.stack ≡ Some c → Checked p k p' g n depths m f fs fs' w ex ss b [] (clause_failure p k p' g n depths f fs x c.user) c.holds c.rest (m.behind gr j)
     pub made_stuck : (j q : ℕ) (x : Piece) (i : Instr) (kd : ClauseKind) (f : Frame) (fs fs' : List Frame) (w : World) (ex : List Cell) (ss : List Statics) (b : Continuation) → f.method ≡ me → f.at ≡ InGroup gr j q → IsHere (Some plan) f.at → piece_at (Some plan) gr j ≡ Some x → x.clause.kind ≡ kind.RequiresOf → slice_get x.clause.instrs q ≡ Some i → contract_call p i ≡ EndsClause kd → Paired p k p' g n depths m f fs fs' w ex ss
         → condition_in (has_message p i) f.local.stack ≡ None → Comes p' (cost k p) (from_here p k p' g n depths m f ex b fs' w ss []) (stuck (beside ss w))

@@ -34,7 +34,7 @@ use Rattle.cil_semantics.specs.ContractCalls.{contract_call}
 use Rattle.cil_semantics.specs.declared.contract_call.ContractCall.TheVariants.{TakesOld}
 use Rattle.cil_semantics.specs.Checks.{AddedNumbers}
 use Rattle.machine_laws.specs.Same.{most_clauses, plain_step}
-use Rattle.splice_facts.specs.Comes.{Comes}
+use Rattle.splice_facts.specs.Comes.{Comes, Goes}
 use Rattle.splice_facts.specs.Exceptions.{IsException}
 use Rattle.splice_facts.specs.Grown.{grow, beside}
 use Rattle.splice_facts.specs.Layout.{Depths, Marks, IsHere}
@@ -42,8 +42,8 @@ use Rattle.splice_facts.specs.Spliced.{Paired, ContinuesAt, FitsGroup, twin, sta
 use Rattle.splice_laws.specs.Straight.{pop, stloc, leave, frame_at, at_place, Stay}
 use Rattle.splice_laws.specs.HelperRuns.{HelpersRun, with_depth}
 use Rattle.splice_laws.specs.EntryCode.{GroupFrame}
-use Rattle.splice_facts.proofs.ComesLaws.{comes_at_once, comes_on, comes_within}
-use Rattle.splice_laws.proofs.StraightLaws.{one_step, goes_one, steps_by, world_back, rows, does_stloc, does_pop, acts_leave}
+use Rattle.splice_facts.proofs.ComesLaws.{comes_at_once, comes_on, comes_within, moves_within}
+use Rattle.splice_laws.proofs.StraightLaws.{one_step, goes_one, steps_by, world_back, rows, does_stloc, does_pop, acts_leave, first_step}
 use Rattle.splice_laws.proofs.SeamLocalLaws.{get_right, set_right}
 use Rattle.splice_laws.proofs.StuckCheckLaws.{acts_empty, acts_unkept}
 use Rattle.splice_laws.proofs.LeavingLaws.{search_past, found_own, ends_leaving, leaves_out, picks}
@@ -113,9 +113,9 @@ module _ (p : Program) (k : Contracts) (p' : Program) (g : AddedNumbers) (n : �
   -- ---- a value is kept
 
   takes_it : (j q : ℕ) (x : Piece) (i : Instr) (c : ℕ) (f : Frame) (fs fs' : List Frame) (w : World) (ex : List Cell) (ss : List Statics) (b : Continuation) → f.method ≡ me → f.at ≡ InGroup group.Entry j q → IsHere (Some plan) f.at → here_now j ≡ Some x → x.captures ≡ Some c → slice_get x.clause.instrs q ≡ Some i → contract_call p i ≡ TakesOld → Sc f fs fs' w ex ss
-      → Comes p' (cost k p) (from_here p k p' g n depths m f ex b fs' w ss []) (kept_in p k p' g n depths f.local.stack c f ex b fs' w ss (m.behind group.Entry j))
+      → Goes p' (cost k p) (from_here p k p' g n depths m f ex b fs' w ss []) (kept_in p k p' g n depths f.local.stack c f ex b fs' w ss (m.behind group.Entry j))
   takes_it j q x i c f fs fs' w ex ss b a at here there cap instr takes s =
-      comes_within p' 1 (cost k p) _ _ (omega (arith, many)) (by_stack f.local.stack refl)
+      moves_within p' 1 (cost k p) _ _ (omega (arith, many)) (by_stack f.local.stack refl)
     where
       z : CaptureAt p k p' g n depths r me plan m e j x c
       z = code.captures j x c there cap
@@ -152,29 +152,29 @@ module _ (p : Program) (k : Contracts) (p' : Program) (g : AddedNumbers) (n : �
       kept_so : (u : Value) → option_and_then (set_cell p' u) (slice_get (grow ex f.local).locals L) ≡ option_and_then (set_cell p u) (slice_get f.local.captured c)
       kept_so u = ap (option_and_then (set_cell p' u)) there_is ∙ set_alike u (slice_get f.local.captured c)
 
-      gets_stuck : (st : List Value) → Rattle.splice_laws.specs.Straight.Acts_so p' (here_of F fs') (stloc L) (with_stack (grow ex f.local) st) (λ u. Stuck) → Comes p' 1 (at_place F (with_stack (grow ex f.local) st) S [] fs' W) (stuck W)
+      gets_stuck : (st : List Value) → Rattle.splice_laws.specs.Straight.Acts_so p' (here_of F fs') (stloc L) (with_stack (grow ex f.local) st) (λ u. Stuck) → Goes p' 1 (at_place F (with_stack (grow ex f.local) st) S [] fs' W) (stuck W)
       gets_stuck st so =
-          one_step p' F (with_stack (grow ex f.local) st) S [] fs' W 0 _ _ (steps_by p' F (with_stack (grow ex f.local) st) S [] fs' W (stloc L) (λ u. Stuck) (at_me' F S _ a stands_so.0) so ∙ ap (λ u. stuck u) (world_back W)) (comes_at_once p' 0 _ _ refl)
+          first_step p' F (with_stack (grow ex f.local) st) S [] fs' W 0 _ _ (steps_by p' F (with_stack (grow ex f.local) st) S [] fs' W (stloc L) (λ u. Stuck) (at_me' F S _ a stands_so.0) so ∙ ap (λ u. stuck u) (world_back W)) (comes_at_once p' 0 _ _ refl)
 
       Goal : List Value → Type 0
-      Goal st = Comes p' 1 (from_here p k p' g n depths m f ex b fs' w ss []) (kept_in p k p' g n depths st c f ex b fs' w ss B)
+      Goal st = Goes p' 1 (from_here p k p' g n depths m f ex b fs' w ss []) (kept_in p k p' g n depths st c f ex b fs' w ss B)
 
       from_stack : (st : List Value) → f.local.stack ≡ st → at_place F (with_stack (grow ex f.local) st) S [] fs' W ≡ from_here p k p' g n depths m f ex b fs' w ss []
       from_stack st es = ap (λ y. at_place F (with_stack (grow ex f.local) y) S [] fs' W) (sym es)
 
       by_stack : (st : List Value) → f.local.stack ≡ st → Goal st
-      by_stack [] es = subst (λ y. Comes p' 1 y (stuck W)) (from_stack [] es) (gets_stuck [] (acts_empty p' (here_of F fs') L (grow ex f.local)))
+      by_stack [] es = subst (λ y. Goes p' 1 y (stuck W)) (from_stack [] es) (gets_stuck [] (acts_empty p' (here_of F fs') L (grow ex f.local)))
       by_stack (u ∷ rest) es = by_cell (option_and_then (set_cell p u) (slice_get f.local.captured c)) refl
         where
           by_cell : (o : Option Cell) → option_and_then (set_cell p u) (slice_get f.local.captured c) ≡ o
-              → Comes p' 1 (from_here p k p' g n depths m f ex b fs' w ss []) (if_there o W (λ y. stands p k p' g n depths f (record f.local { captured = slice_set f.local.captured c y; stack = rest }) ex B b fs' w ss))
-          by_cell None eo = subst (λ y. Comes p' 1 y (stuck W)) (from_stack (u ∷ rest) es) (gets_stuck (u ∷ rest) (acts_unkept p' (here_of F fs') L u rest (grow ex f.local) (kept_so u ∙ eo)))
+              → Goes p' 1 (from_here p k p' g n depths m f ex b fs' w ss []) (if_there o W (λ y. stands p k p' g n depths f (record f.local { captured = slice_set f.local.captured c y; stack = rest }) ex B b fs' w ss))
+          by_cell None eo = subst (λ y. Goes p' 1 y (stuck W)) (from_stack (u ∷ rest) es) (gets_stuck (u ∷ rest) (acts_unkept p' (here_of F fs') L u rest (grow ex f.local) (kept_so u ∙ eo)))
           by_cell (Some y) eo =
               let l2 : LocalState = record (grow ex f.local) { locals = slice_set (grow ex f.local).locals L y; stack = rest } in
               let l3 : LocalState = grow ex (record f.local { captured = slice_set f.local.captured c y; stack = rest }) in
               let same : l2 ≡ l3 = ap (λ ls. record (grow ex f.local) { locals = ls; stack = rest }) (captured_set f.local.locals f.local.captured ex m.old_locals c y (s.keeps).wide within) in
-              subst (λ t. Comes p' 1 t (at_place F l3 B [] fs' W)) (from_stack (u ∷ rest) es)
-              (one_step p' F (with_stack (grow ex f.local) (u ∷ rest)) S [] fs' W 0 _ _
+              subst (λ t. Goes p' 1 t (at_place F l3 B [] fs' W)) (from_stack (u ∷ rest) es)
+              (first_step p' F (with_stack (grow ex f.local) (u ∷ rest)) S [] fs' W 0 _ _
               (goes_one p' F (with_stack (grow ex f.local) (u ∷ rest)) l2 S [] fs' W (stloc L) (at_me' F S _ a stands_so.0) (does_stloc p' (here_of F fs') L u rest y (grow ex f.local) (kept_so u ∙ eo)) refl)
               (comes_at_once p' 0 _ _ (ap (λ t. at_place F t (S + 1) [] fs' W) same ∙ ap (λ t. at_place F l3 t [] fs' W) (sym stands_so.1))))
 

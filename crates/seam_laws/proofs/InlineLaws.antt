@@ -26,11 +26,11 @@ use Rattle.cil_semantics.specs.declared.contract_call.ContractCall.TheVariants.{
 use Rattle.cil_semantics.specs.Checks.{AddedNumbers}
 use Rattle.machine_laws.specs.Same.{most_clauses}
 use Rattle.splice_facts.specs.Layout.{Depths, Marks}
-use Rattle.splice_facts.specs.Spliced.{IsInline}
+use Rattle.splice_facts.specs.Spliced.{IsInline, Current}
 use Rattle.splice_laws.specs.Straight.{Stay}
 use Rattle.splice_laws.specs.HelperRuns.{HelpersRun}
 use Rattle.splice_laws.specs.Fails.{NotMade}
-use Rattle.splice_laws.specs.PendingHandlers.{Pending, HoldsAs}
+use Rattle.splice_laws.specs.PendingHandlers.{HoldsAs}
 use Rattle.splice_laws.proofs.PendingLaws.{run_on}
 use Rattle.splice_laws.proofs.CheckLaws.{base, check_at}
 use Rattle.splice_laws.proofs.StuckCheckLaws.{first_stores, stuck_at}
@@ -83,7 +83,7 @@ module _ (p : Program) (k : Contracts) (p' : Program) (g : AddedNumbers) (n : �
   kind_of f fs (InGroup gr j q) i kd home label h = not_made p i kd h.3
   kind_of f fs (Rest q) i kd home label h = not_made p i kd h.1
 
-  stays_at : (f : Frame) (b : Rattle.cil_semantics.specs.declared.state.Continuation.Continuation) (q : ℕ) (hs : List Handling) → f.method ≡ me → Pending p k p' g n depths me f.at hs → HoldsAs p k p' g n depths me f.at q → Stay p' (base p k p' g n depths r me m e.reporting f b) q hs
+  stays_at : (f : Frame) (b : Rattle.cil_semantics.specs.declared.state.Continuation.Continuation) (q : ℕ) (hs : List Handling) → f.method ≡ me → Current p k p' g n depths me f.at hs → HoldsAs p k p' g n depths me f.at q → Stay p' (base p k p' g n depths r me m e.reporting f b) q hs
   stays_at f b q hs a pending same = ap (λ y. filter (in_handler (body_of p' y).regions q) hs) a ∙ run_on p k p' g n depths me f.at q hs pending same
 
   first_between : (code : List Instr) (s on q : ℕ) → q ≡ s + 1 → on ≡ s + length code → 2 ≤ length code → (s < q) × (q < on)

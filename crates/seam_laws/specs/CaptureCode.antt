@@ -25,7 +25,7 @@ use Rattle.cil_semantics.specs.Unwind.{body_of, piece_at, next_piece, unwind, dr
 use Rattle.cil_semantics.specs.ContractCalls.{contract_call}
 use Rattle.cil_semantics.specs.declared.contract_call.ContractCall.TheVariants.{TakesOld}
 use Rattle.cil_semantics.specs.Checks.{AddedNumbers}
-use Rattle.splice_facts.specs.Comes.{Comes}
+use Rattle.splice_facts.specs.Comes.{Goes}
 use Rattle.splice_facts.specs.Exceptions.{IsException}
 use Rattle.splice_facts.specs.Grown.{beside}
 use Rattle.splice_facts.specs.Layout.{Depths, Marks, IsHere}
@@ -75,6 +75,6 @@ module _ (p : Program) (k : Contracts) (p' : Program) (g : AddedNumbers) (n : �
   -- what is asked of captures
   pub record CaptureSeams : Type 0 where
     pub takes : (j q : ℕ) (x : Piece) (i : Instr) (c : ℕ) (f : Frame) (fs fs' : List Frame) (w : World) (ex : List Cell) (ss : List Statics) (b : Continuation) → f.method ≡ me → f.at ≡ InGroup group.Entry j q → IsHere (Some plan) f.at → piece j ≡ Some x → x.captures ≡ Some c → slice_get x.clause.instrs q ≡ Some i → contract_call p i ≡ TakesOld → Paired p k p' g n depths m f fs fs' w ex ss
-        → Comes p' (cost k p) (from_here p k p' g n depths m f ex b fs' w ss []) (kept_in p k p' g n depths f.local.stack c f ex b fs' w ss (m.behind group.Entry j))
+        → Goes p' (cost k p) (from_here p k p' g n depths m f ex b fs' w ss []) (kept_in p k p' g n depths f.local.stack c f ex b fs' w ss (m.behind group.Entry j))
     pub swallows : (j q q' : ℕ) (f : Frame) (fs fs' : List Frame) (w : World) (ex : List Cell) (ss : List Statics) (b : Continuation) (x : ℕ) → f.at ≡ InGroup group.Entry j q → IsHere (Some plan) f.at → IsTrue (m.belongs f.at q') → f.method ≡ me → FitsGroup p k p' g n depths group.Entry f.thrown → 0 < w.depth → Paired p k p' g n depths m f fs fs' w ex ss → drops (piece j) ≡ true → IsException p w x
         → ContinuesAt p k p' g n depths m plan group.Entry (cost k p) (unwind p' no_contracts false (twin p k p' g n depths f f.local ex q' [] b ∷ fs') (beside ss w) x) f fs f.local b fs' w (next_piece p plan group.Entry (j + 1) f fs w)

@@ -24,11 +24,11 @@ use Rattle.cil_semantics.specs.Checks.{AddedNumbers, Condition, condition_in, ki
 use Rattle.splice_facts.specs.Comes.{Comes}
 use Rattle.splice_facts.specs.Grown.{beside}
 use Rattle.splice_facts.specs.Layout.{Depths, Marks, IsHere}
-use Rattle.splice_facts.specs.Spliced.{Paired, Checked, IsInline, from_here, cost}
+use Rattle.splice_facts.specs.Spliced.{Paired, Checked, IsInline, from_here, cost, Current}
 use Rattle.splice_laws.specs.Straight.{StandAt}
 use Rattle.splice_laws.specs.HelperRuns.{HelpersRun}
 use Rattle.splice_laws.specs.EntryCode.{Reporting, check_code}
-use Rattle.splice_laws.specs.PendingHandlers.{Pending, HoldsAs}
+use Rattle.splice_laws.specs.PendingHandlers.{HoldsAs}
 
 module _ (p : Program) (k : Contracts) (p' : Program) (g : AddedNumbers) (n : ℕ) (depths : Depths n g) (r : HelpersRun p' g k.settings.throwing depths.owner k.settings.guard) (me : ℕ) (plan : Plan) (m : Marks) where
   -- in place of the call stands the check, and behind it the next place; what is between belongs to the call and is held as it is
@@ -46,7 +46,7 @@ module _ (p : Program) (k : Contracts) (p' : Program) (g : AddedNumbers) (n : �
 
   -- what is asked of an Assert or Assume that is checked
   pub record ChecksInPlace : Type 0 where
-    pub asserts : (f : Frame) (fs fs' : List Frame) (w : World) (ex : List Cell) (ss : List Statics) (b : Continuation) (hs : List Handling) (i : Instr) (kd : ClauseKind) (c : Condition) (label : Name) (home : ℕ) → f.method ≡ me → IsHere (Some plan) f.at → IsInline p k p' g n depths plan me f fs f.at i kd home label → Paired p k p' g n depths m f fs fs' w ex ss → Pending p k p' g n depths me f.at hs
+    pub asserts : (f : Frame) (fs fs' : List Frame) (w : World) (ex : List Cell) (ss : List Statics) (b : Continuation) (hs : List Handling) (i : Instr) (kd : ClauseKind) (c : Condition) (label : Name) (home : ℕ) → f.method ≡ me → IsHere (Some plan) f.at → IsInline p k p' g n depths plan me f fs f.at i kd home label → Paired p k p' g n depths m f fs fs' w ex ss → Current p k p' g n depths me f.at hs
         → condition_in (has_message p i) f.local.stack ≡ Some c → Checked p k p' g n depths m f fs fs' w ex ss b hs (record { kind = kd; exception = None; home = home; user = c.user; label = label }) c.holds c.rest (m.places (next_place f.at))
-    pub asserts_stuck : (f : Frame) (fs fs' : List Frame) (w : World) (ex : List Cell) (ss : List Statics) (b : Continuation) (hs : List Handling) (i : Instr) (kd : ClauseKind) (label : Name) (home : ℕ) → f.method ≡ me → IsHere (Some plan) f.at → IsInline p k p' g n depths plan me f fs f.at i kd home label → Paired p k p' g n depths m f fs fs' w ex ss → Pending p k p' g n depths me f.at hs
+    pub asserts_stuck : (f : Frame) (fs fs' : List Frame) (w : World) (ex : List Cell) (ss : List Statics) (b : Continuation) (hs : List Handling) (i : Instr) (kd : ClauseKind) (label : Name) (home : ℕ) → f.method ≡ me → IsHere (Some plan) f.at → IsInline p k p' g n depths plan me f fs f.at i kd home label → Paired p k p' g n depths m f fs fs' w ex ss → Current p k p' g n depths me f.at hs
         → condition_in (has_message p i) f.local.stack ≡ None → Comes p' (cost k p) (from_here p k p' g n depths m f ex b fs' w ss hs) (stuck (beside ss w))

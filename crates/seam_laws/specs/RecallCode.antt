@@ -18,7 +18,7 @@ use Rattle.cil_semantics.specs.Unwind.{body_of, piece_at, moved_to, next_place}
 use Rattle.cil_semantics.specs.ContractCalls.{contract_call}
 use Rattle.cil_semantics.specs.declared.contract_call.ContractCall.TheVariants.{GivesResult}
 use Rattle.cil_semantics.specs.Checks.{AddedNumbers, recalled}
-use Rattle.splice_facts.specs.Comes.{Comes}
+use Rattle.splice_facts.specs.Comes.{Goes}
 use Rattle.splice_facts.specs.Layout.{Depths, Marks, IsHere, CanArrive}
 use Rattle.splice_facts.specs.Spliced.{Paired, stands, from_here, cost}
 use Rattle.splice_laws.specs.Straight.{ldloc}
@@ -42,6 +42,6 @@ module _ (p : Program) (k : Contracts) (p' : Program) (g : AddedNumbers) (n : �
   -- what is asked of them
   pub record RecallSeams : Type 0 where
     pub recalls : (gr : Group) (j q : ℕ) (x : Piece) (o : ℕ × Old) (c : Cell) (f : Frame) (fs fs' : List Frame) (w : World) (ex : List Cell) (ss : List Statics) (b : Continuation) → f.method ≡ me → f.at ≡ InGroup gr j q → IsHere (Some plan) f.at → piece_at (Some plan) gr j ≡ Some x → recalled x q ≡ Some o → slice_get f.local.captured (x.first_captured + o.0) ≡ Some c → Paired p k p' g n depths m f fs fs' w ex ss
-        → CanArrive (Some plan) (moved_to (o.1.to + 1) f.at) × Comes p' (cost k p) (from_here p k p' g n depths m f ex b fs' w ss []) (stands p k p' g n depths f (pushed c.value f.local) ex (m.places (moved_to (o.1.to + 1) f.at)) b fs' w ss)
+        → CanArrive (Some plan) (moved_to (o.1.to + 1) f.at) × Goes p' (cost k p) (from_here p k p' g n depths m f ex b fs' w ss []) (stands p k p' g n depths f (pushed c.value f.local) ex (m.places (moved_to (o.1.to + 1) f.at)) b fs' w ss)
     pub results : (gr : Group) (j q : ℕ) (x : Piece) (i : Instr) (v : Value) (f : Frame) (fs fs' : List Frame) (w : World) (ex : List Cell) (ss : List Statics) (b : Continuation) → f.method ≡ me → f.at ≡ InGroup gr j q → IsHere (Some plan) f.at → piece_at (Some plan) gr j ≡ Some x → slice_get x.clause.instrs q ≡ Some i → contract_call p i ≡ GivesResult → f.local.result ≡ Some v → Paired p k p' g n depths m f fs fs' w ex ss
-        → Comes p' (cost k p) (from_here p k p' g n depths m f ex b fs' w ss []) (stands p k p' g n depths f (pushed v f.local) ex (m.places (next_place f.at)) b fs' w ss)
+        → Goes p' (cost k p) (from_here p k p' g n depths m f ex b fs' w ss []) (stands p k p' g n depths f (pushed v f.local) ex (m.places (next_place f.at)) b fs' w ss)

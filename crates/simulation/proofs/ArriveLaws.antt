@@ -24,6 +24,7 @@ use Rattle.cil_semantics.specs.Unwind.{begin_entry, begin_first, go_to_rest, bod
 use Rattle.cil_semantics.specs.Checks.{AddedNumbers}
 use Rattle.machine_laws.specs.Same.{most_clauses}
 use Rattle.splice_facts.specs.Bodies.{with_methods}
+use Rattle.splice_facts.specs.Exceptions.{ExceptionIf}
 use Rattle.splice_facts.specs.Grown.{grow, beside}
 use Rattle.splice_facts.specs.Comes.{Reaches}
 use Rattle.splice_facts.specs.Input.{PieceFacts, PiecesIf}
@@ -199,13 +200,13 @@ module _ (p : Program) (k : Contracts) (ms : List MethodDesc) (g : AddedNumbers)
   opened c gr h l b fs fs' w from over None false e old under there a n le other = other a
 
   -- a group begins, or is passed over
-  pub group_begins : (c : Plan) (gr : Group) (h : Frame) (l : Local) (ex : List Cell) (b : Continuation) (fs fs' : List Frame) (w : World) (ss : List Statics) (over : Next) → plan h.method ≡ Some c → h.method < r.methods → gr ≢ group.Entry → l.stack ≡ [] → Fits gr h.thrown → Keeps (mk h.method) (here_of h fs) h.thrown l ex → IsBeside w ss → length fs' ≡ length fs → w.depth ≤ suc k.settings.guard → below h.continuation b fs fs'
+  pub group_begins : (c : Plan) (gr : Group) (h : Frame) (l : Local) (ex : List Cell) (b : Continuation) (fs fs' : List Frame) (w : World) (ss : List Statics) (over : Next) → plan h.method ≡ Some c → h.method < r.methods → gr ≢ group.Entry → l.stack ≡ [] → Fits gr h.thrown → ExceptionIf p w h.thrown → Keeps (mk h.method) (here_of h fs) h.thrown l ex → IsBeside w ss → length fs' ≡ length fs → w.depth ≤ suc k.settings.guard → below h.continuation b fs fs'
       → (n : ℕ) → begin_in gr + lay (suc (length fs)) ≤ n → (Comes_in (begin_in gr) (record h { local = l }) fs (with_stack l []) ((mk h.method).out gr) b fs' w (stands p k p' g r.types r.depths h l ex ((mk h.method).door gr) b fs' w ss) → To n over (stands p k p' g r.types r.depths h l ex ((mk h.method).door gr) b fs' w ss))
       → To n (begin_group p c gr (with_local l h) fs w over) (stands p k p' g r.types r.depths h l ex ((mk h.method).door gr) b fs' w ss)
-  group_begins c gr h l ex b fs fs' w ss over e old other_group empty fits keeps bes numbers deep under n le other =
+  group_begins c gr h l ex b fs fs' w ss over e old other_group empty fits ok keeps bes numbers deep under n le other =
       let h1 : Frame = record h { local = l } in
       let scene : Paired p k p' g r.types r.depths (mk h.method) h1 fs fs' w ex ss = record { keeps = keeps; beside = bes; numbers = numbers; deep = deep } in
-      let a = (groups_of h.method c e old).opens gr h1 fs fs' w ex ss b other_group empty refl fits scene in
+      let a = (groups_of h.method c e old).opens gr h1 fs fs' w ex ss b other_group empty refl fits ok scene in
       let from = stands p k p' g r.types r.depths h l ex ((mk h.method).door gr) b fs' w ss in
       opened c gr h1 l b fs fs' w from over (next_piece p c gr 0 h1 fs w) (runs_at c gr w.depth) e old under (λ x q. found_piece p c gr 0 h1 fs w x q) a n le other
 

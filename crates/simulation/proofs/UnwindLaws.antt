@@ -34,7 +34,7 @@ use Rattle.cil_semantics.specs.Checks.{AddedNumbers}
 use Rattle.machine_laws.specs.Same.{most_clauses}
 use Rattle.splice_facts.specs.Bodies.{with_methods}
 use Rattle.splice_facts.specs.Grown.{beside}
-use Rattle.splice_facts.specs.Comes.{Comes}
+use Rattle.splice_facts.specs.Comes.{Comes, Goes, Answers}
 use Rattle.machine_laws.specs.Answers.{is_below}
 use Rattle.splice_facts.specs.Layout.{Marks, Keeps, IsHere, CanArrive}
 use Rattle.splice_facts.specs.Spliced.{Beside, twin, stands, Arrives, OpensAt, ContinuesAt, Paired, Spliced, Groups, FitsGroup, leaves_with, moved_found, is_guarded, cost, opening_cost, wrapper_cost}
@@ -45,7 +45,7 @@ use Rattle.splice_facts.specs.Related.{Rewritten, HandlingPair, HandlingPairs, W
 use Rattle.splice_facts.specs.Related as Pairs
 use Rattle.simulation.proofs.ProgramLaws.{fun_ext, sub_same}
 use Rattle.splice_facts.proofs.StaticLaws.{find_other, input, find_input, set_input, same_below}
-use Rattle.splice_facts.proofs.ComesLaws.{no_plan, reaches_by, reaches_within, reaches_at_once, found_piece}
+use Rattle.splice_facts.proofs.ComesLaws.{no_plan, reaches_by, reaches_within, reaches_at_once, found_piece, answers_by, answers_within}
 use Rattle.simulation.proofs.ArriveLaws as Arriving
 use Rattle.simulation.proofs.ArriveLaws.{pick_true, pick_false, group_begins, groups_of, arrives_here, goes_here, rest_here}
 
@@ -68,14 +68,14 @@ moved_pairs plan m rows at t [] [] ok x = tt
 moved_pairs plan m rows at t [] (h' ∷ hs') ok x = absurd x
 moved_pairs plan m rows at t (h ∷ hs) [] ok x = absurd x
 moved_pairs plan m rows (LeadIn q) t (h ∷ hs) (h' ∷ hs') ok x =
-    (record { handler = x.0.handler; next = x.0.next; cause = x.0.cause; here = x.0.here; belongs = x.0.belongs; leads = leads_so h.cause x.0.leads; low = x.0.low }, moved_pairs plan m rows (LeadIn q) t hs hs' ok x.1)
+    (record { handler = x.0.handler; next = x.0.next; cause = x.0.cause; here = x.0.here; belongs = x.0.belongs; leads = leads_so h.cause x.0.leads; low = x.0.low; behind = x.0.behind }, moved_pairs plan m rows (LeadIn q) t hs hs' ok x.1)
   where
     leads_so : (c : Cause) → Pairs.LeadsTo plan (LeadIn q) c → Pairs.LeadsTo plan (LeadIn t) c
     leads_so (Caught y) l = tt
     leads_so (Unwinding y) l = tt
     leads_so (Rattle.cil_semantics.specs.declared.state.Cause.TheVariants.Leaving y) l = l
 moved_pairs plan m rows (Rest q) t (h ∷ hs) (h' ∷ hs') ok x =
-    (record { handler = x.0.handler; next = x.0.next; cause = x.0.cause; here = x.0.here; belongs = x.0.belongs; leads = leads_so h.cause x.0.leads; low = x.0.low }, moved_pairs plan m rows (Rest q) t hs hs' ok x.1)
+    (record { handler = x.0.handler; next = x.0.next; cause = x.0.cause; here = x.0.here; belongs = x.0.belongs; leads = leads_so h.cause x.0.leads; low = x.0.low; behind = x.0.behind }, moved_pairs plan m rows (Rest q) t hs hs' ok x.1)
   where
     leads_so : (c : Cause) → Pairs.LeadsTo plan (Rest q) c → Pairs.LeadsTo plan (Rest t) c
     leads_so (Caught y) l = tt
@@ -208,7 +208,7 @@ module _ (p : Program) (k : Contracts) (ms : List MethodDesc) (g : AddedNumbers)
       let h1 : Frame = record h { thrown = Some x } in
       let over = ends_frame p h.initializes h.continuation w x (λ s v y. unwind p k s fs v y) in
       let door = stands p k p' g r.types r.depths h l ex ((mk h.method).door group.Throw) b fs' w ss in
-      group_begins p k ms g r c group.Throw h1 l ex b fs fs' w ss over e old (λ d. cc d) empty tt keeps bes numbers deep under (opening_cost k p group.Throw + lay (suc (length fs))) (omega arith)
+      group_begins p k ms g r c group.Throw h1 l ex b fs fs' w ss over e old (λ d. cc d) empty tt (is_exception p w x r.rooted there) keeps bes numbers deep under (opening_cost k p group.Throw + lay (suc (length fs))) (omega arith)
       (λ a.
       let h2 : Frame = record h { thrown = Some x; local = with_stack l [] } in
       let scene : Paired p k p' g r.types r.depths (mk h.method) h2 fs fs' w a.extra a.statics = record { keeps = a.keeps; beside = a.beside; numbers = numbers; deep = deep } in
@@ -219,6 +219,15 @@ module _ (p : Program) (k : Contracts) (ms : List MethodDesc) (g : AddedNumbers)
 
   abbrev pub reach_by : (m n : ℕ) (x y z : Next) → Comes p' m y z → To n x z → To (m + n) x y
   reach_by m n x y z c h = reaches_by p' (Arriving.E p k ms g r) (Arriving.R p k ms g r) (Arriving.f p k ms g r) m n x y z c h
+
+  abbrev pub An : ℕ → Next → Next → Type 0
+  An n x y = Answers p' (Arriving.E p k ms g r) (Arriving.R p k ms g r) (Arriving.f p k ms g r) n x y
+
+  abbrev pub answer_by : (m n : ℕ) (x y z : Next) → Goes p' m y z → To n x z → An (m + n) x y
+  answer_by m n x y z c h = answers_by p' (Arriving.E p k ms g r) (Arriving.R p k ms g r) (Arriving.f p k ms g r) m n x y z c h
+
+  abbrev pub answer_within : (m n : ℕ) (x y : Next) → m ≤ n → An m x y → An n x y
+  answer_within m n x y le h = answers_within p' (Arriving.E p k ms g r) (Arriving.R p k ms g r) (Arriving.f p k ms g r) m n x y le h
 
   abbrev pub reach_within : (m n : ℕ) (x y : Next) → m ≤ n → To m x y → To n x y
   reach_within m n x y le h = reaches_within p' (Arriving.E p k ms g r) (Arriving.R p k ms g r) (Arriving.f p k ms g r) m n x y le h
@@ -251,12 +260,12 @@ module _ (p : Program) (k : Contracts) (ms : List MethodDesc) (g : AddedNumbers)
       let new : Handling = record { handler = i; cause = Caught x; place = q; next = i + 1 } in
       let new' : Handling = record { handler = i; cause = Caught x; place = q'; next = i + 1 } in
       goes_here p k ms g r (record h { at = LeadIn a }) (LeadIn t) (with_stack h.local (Obj x ∷ [])) h.local (new ∷ hs) (new' ∷ hs') hs0 q0 ex b fs fs' w ss z.old lands.0 (record { typed = z.keeps.typed; result = z.keeps.result; thrown = z.keeps.thrown; wide = z.keeps.wide; caps = z.keeps.caps })
-      (record { handler = refl; next = refl; cause = refl; here = z.thrower; belongs = z.belongs; leads = tt; low = lands.1 }, moved_pairs (plan h.method) (mk h.method) (rows h.method) (LeadIn a) t hs hs' tt z.pairs) z.under z.alike
+      (record { handler = refl; next = refl; cause = refl; here = z.thrower; belongs = z.belongs; leads = tt; low = lands.1; behind = omega (arith, lands.1) }, moved_pairs (plan h.method) (mk h.method) (rows h.method) (LeadIn a) t hs hs' tt z.pairs) z.under z.alike
   lands_lead (CleanupHandler i t) h a hs hs' hs0 q q' skip q0 ex b fs fs' w ss x z lands found =
       let new : Handling = record { handler = i; cause = Unwinding x; place = q; next = i + 1 } in
       let new' : Handling = record { handler = i; cause = Unwinding x; place = q'; next = i + 1 } in
       goes_here p k ms g r (record h { at = LeadIn a }) (LeadIn t) (with_stack h.local []) h.local (new ∷ hs) (new' ∷ hs') hs0 q0 ex b fs fs' w ss z.old lands.0 (record { typed = z.keeps.typed; result = z.keeps.result; thrown = z.keeps.thrown; wide = z.keeps.wide; caps = z.keeps.caps })
-      (record { handler = refl; next = refl; cause = refl; here = z.thrower; belongs = z.belongs; leads = tt; low = lands.1 }, moved_pairs (plan h.method) (mk h.method) (rows h.method) (LeadIn a) t hs hs' tt z.pairs) z.under z.alike
+      (record { handler = refl; next = refl; cause = refl; here = z.thrower; belongs = z.belongs; leads = tt; low = lands.1; behind = omega (arith, lands.1) }, moved_pairs (plan h.method) (mk h.method) (rows h.method) (LeadIn a) t hs hs' tt z.pairs) z.under z.alike
 
   lands_rest : (o : Found) (h : Frame) (a : ℕ) (hs hs' hs0 : List Handling) (q q' skip q0 : ℕ) (ex : List Cell) (b : Continuation) (fs fs' : List Frame) (w : World) (ss : List Statics) (x : ℕ) → Outside h (Rest a) h.local ex hs hs' q q' b fs fs' w ss x
       → LandsAt (plan h.method) (Rest a) (rows h.method) o → (o ≡ NoHandler → ⊥)
@@ -266,12 +275,12 @@ module _ (p : Program) (k : Contracts) (ms : List MethodDesc) (g : AddedNumbers)
       let new : Handling = record { handler = i; cause = Caught x; place = q; next = i + 1 } in
       let new' : Handling = record { handler = i; cause = Caught x; place = q'; next = i + 1 } in
       goes_here p k ms g r (record h { at = Rest a }) (Rest t) (with_stack h.local (Obj x ∷ [])) h.local (new ∷ hs) (new' ∷ hs') hs0 q0 ex b fs fs' w ss z.old lands.0 (record { typed = z.keeps.typed; result = z.keeps.result; thrown = z.keeps.thrown; wide = z.keeps.wide; caps = z.keeps.caps })
-      (record { handler = refl; next = refl; cause = refl; here = z.thrower; belongs = z.belongs; leads = tt; low = lands.1 }, moved_pairs (plan h.method) (mk h.method) (rows h.method) (Rest a) t hs hs' tt z.pairs) z.under z.alike
+      (record { handler = refl; next = refl; cause = refl; here = z.thrower; belongs = z.belongs; leads = tt; low = lands.1; behind = omega (arith, lands.1) }, moved_pairs (plan h.method) (mk h.method) (rows h.method) (Rest a) t hs hs' tt z.pairs) z.under z.alike
   lands_rest (CleanupHandler i t) h a hs hs' hs0 q q' skip q0 ex b fs fs' w ss x z lands found =
       let new : Handling = record { handler = i; cause = Unwinding x; place = q; next = i + 1 } in
       let new' : Handling = record { handler = i; cause = Unwinding x; place = q'; next = i + 1 } in
       goes_here p k ms g r (record h { at = Rest a }) (Rest t) (with_stack h.local []) h.local (new ∷ hs) (new' ∷ hs') hs0 q0 ex b fs fs' w ss z.old lands.0 (record { typed = z.keeps.typed; result = z.keeps.result; thrown = z.keeps.thrown; wide = z.keeps.wide; caps = z.keeps.caps })
-      (record { handler = refl; next = refl; cause = refl; here = z.thrower; belongs = z.belongs; leads = tt; low = lands.1 }, moved_pairs (plan h.method) (mk h.method) (rows h.method) (Rest a) t hs hs' tt z.pairs) z.under z.alike
+      (record { handler = refl; next = refl; cause = refl; here = z.thrower; belongs = z.belongs; leads = tt; low = lands.1; behind = omega (arith, lands.1) }, moved_pairs (plan h.method) (mk h.method) (rows h.method) (Rest a) t hs hs' tt z.pairs) z.under z.alike
 
   abbrev spliced : (m : ℕ) → m < r.methods → Spliced p k p' g r.types r.depths m (plan m) (mk m)
   spliced m old = r.bodies m old
@@ -329,9 +338,9 @@ module _ (p : Program) (k : Contracts) (ms : List MethodDesc) (g : AddedNumbers)
           (reach_within (2 * cst + lay (length fs)) _ _ _ (omega arith) (ends_so h b fs fs' w ss x z.down z.own z.alike z.thrown_there z.count z.deep)))
 
   -- the rest
-  pub throws_rest : (h : Frame) (a : ℕ) (hs hs' hs0 : List Handling) (q q' skip q0 : ℕ) (ex : List Cell) (b : Continuation) (fs fs' : List Frame) (w : World) (ss : List Statics) (x : ℕ) → h.thrown ≡ None → Outside h (Rest a) h.local ex hs hs' q q' b fs fs' w ss x
+  pub throws_rest : (h : Frame) (a : ℕ) (hs hs' hs0 : List Handling) (q q' skip q0 : ℕ) (ex : List Cell) (b : Continuation) (fs fs' : List Frame) (w : World) (ss : List Statics) (x : ℕ) → h.thrown ≡ None → skip ≤ rows h.method → Outside h (Rest a) h.local ex hs hs' q q' b fs fs' w ss x
       → To (2 * cst + lay (suc (length fs))) (throws_in p k (record h { at = Rest a }) hs skip q fs w x (λ s v y. unwind p k s fs v y)) (new_throws h h.local ex q0 hs0 b hs' skip q' fs' w ss x)
-  throws_rest h a hs hs' hs0 q q' skip q0 ex b fs fs' w ss x bare z = by_found (old_search h w x skip q) refl
+  throws_rest h a hs hs' hs0 q q' skip q0 ex b fs fs' w ss x bare most z = by_found (old_search h w x skip q) refl
     where
       from : Found → Next
       from o = land p k o (record h { at = Rest a }) hs q fs w x (λ s v y. unwind p k s fs v y)
@@ -361,7 +370,7 @@ module _ (p : Program) (k : Contracts) (ms : List MethodDesc) (g : AddedNumbers)
       guarded : (c : Plan) → plan h.method ≡ Some c → is_guarded p k p' g r.types r.depths (plan h.method) (Rest a) ≡ true → old_search h w x skip q ≡ NoHandler
           → To (2 * cst + lay (suc (length fs))) (begin_group p c group.Throw (record h { at = Rest a; thrown = Some x }) fs w ended) (new_throws h h.local ex q0 hs0 b hs' skip q' fs' w ss x)
       guarded c e u s =
-          let a1 = (spliced h.method z.old).wrapper (record h { at = Rest a }) fs fs' w ex ss b q skip q' q0 x hs0 hs' refl scene (lows h.method (Rest a) hs hs' z.pairs) z.here u z.thrower z.belongs s (is_exception p w x r.rooted z.thrown_there) in
+          let a1 = (spliced h.method z.old).wrapper (record h { at = Rest a }) fs fs' w ex ss b q skip q' q0 x hs0 hs' refl scene (lows h.method (Rest a) hs hs' z.pairs) z.here u z.thrower z.belongs most s (is_exception p w x r.rooted z.thrown_there) in
           let t = throw_group c h (with_stack h.local []) a1.extra b fs fs' w a1.statics x refl (subst (λ o. is_guarded p k p' g r.types r.depths o (Rest a) ≡ true) e u) e z.old a1.keeps a1.beside z.thrown_there z.numbers z.deep z.count z.under z.down z.own in
           reach_within (wrapper_cost k p + (opening_cost k p group.Throw + lay (suc (length fs)))) _ _ _ (omega arith)
           (reach_by (wrapper_cost k p) (opening_cost k p group.Throw + lay (suc (length fs))) _ _ _ a1.comes
@@ -471,7 +480,7 @@ module _ (p : Program) (k : Contracts) (ms : List MethodDesc) (g : AddedNumbers)
       throws_lead h a h.handling hs' hs' a q' 0 q' ex b fs fs' w ss x
       (record { old = z.old; here = z.here; thrown_there = z.thrown_there; thrower = z.here; belongs = z.belongs; keeps = z.keeps; pairs = z.waits; under = z.under; alike = z.alike; numbers = z.numbers; deep = z.deep; count = omega (arith, z.count); down = z.down; own = z.own })
   unwinds_at h (Rest a) ex hs' q' b fs fs' w ss x z =
-      throws_rest h a h.handling hs' hs' a q' 0 q' ex b fs fs' w ss x (none_thrown h.thrown z.fits)
+      throws_rest h a h.handling hs' hs' a q' 0 q' ex b fs fs' w ss x (none_thrown h.thrown z.fits) (omega arith)
       (record { old = z.old; here = z.here; thrown_there = z.thrown_there; thrower = z.here; belongs = z.belongs; keeps = z.keeps; pairs = z.waits; under = z.under; alike = z.alike; numbers = z.numbers; deep = z.deep; count = omega (arith, z.count); down = z.down; own = z.own })
   unwinds_at h (InGroup gr j q) ex hs' q' b fs fs' w ss x z = by_plan (plan h.method) refl
     where

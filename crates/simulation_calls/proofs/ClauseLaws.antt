@@ -73,11 +73,11 @@ module _ (p : Program) (k : Contracts) (ms : List MethodDesc) (g : AddedNumbers)
   -- the condition is there: it holds and the piece is over, or it fails
   pub condition_ends : (c : Plan) (gr : Group) (j q : ℕ) (x : Piece) (h : Frame) (ex : List Cell) (b' : Continuation) (fs fs' : List Frame) (w : World) (ss : List Statics) (o : Condition) (z : Failing.InPiece p k ms g r c gr j q x h ex b' fs fs' w ss)
       → (ch : Checked p k p' g r.types r.depths (mk h.method) h fs fs' w ex ss b' [] (clause_failure p k p' g r.types r.depths h fs x o.user) o.holds o.rest ((mk h.method).behind gr j))
-      → Failing.MakesAlike p k ms g r (clause_failure p k p' g r.types r.depths h fs x o.user) (Failing.old_sequel p k ms g r c gr j h (with_stack h.local o.rest) fs) (Failing.new_sequel p k ms g r h fs' b' (with_stack h.local o.rest) ch.after ch.seam ((mk h.method).behind gr j)) (record h { local = with_stack h.local o.rest } ∷ fs) fs' (ending (length fs)) w.depth
-      → To (failure_cost k p + ending (length fs)) (check p k g (clause_failure p k p' g r.types r.depths h fs x o.user) o.holds (record h { local = with_stack h.local o.rest } ∷ fs) w (λ v. piece_over p k c gr j (with_local (with_stack h.local o.rest) h) fs v)) (from_here p k p' g r.types r.depths (mk h.method) h ex b' fs' w ss [])
+      → Failing.MakesAlike p k ms g r (clause_failure p k p' g r.types r.depths h fs x o.user) (Failing.old_sequel p k ms g r c gr j h (with_stack h.local o.rest) fs) (Failing.new_sequel p k ms g r h fs' b' (with_stack h.local o.rest) ch.after ch.seam ch.maker ((mk h.method).behind gr j)) (record h { local = with_stack h.local o.rest } ∷ fs) fs' (ending (length fs)) w.depth
+      → Unwinding.An p k ms g r (failure_cost k p + ending (length fs)) (check p k g (clause_failure p k p' g r.types r.depths h fs x o.user) o.holds (record h { local = with_stack h.local o.rest } ∷ fs) w (λ v. piece_over p k c gr j (with_local (with_stack h.local o.rest) h) fs v)) (from_here p k p' g r.types r.depths (mk h.method) h ex b' fs' w ss [])
   condition_ends c gr j q x h ex b' fs fs' w ss o z ch mk_so =
-      Unwinding.reach_by p k ms g r (failure_cost k p) (ending (length fs)) _ _ _ ch.comes
-      (Checking.checks_so p k ms g r (ending (length fs)) w.depth w.heap fl (Failing.old_sequel p k ms g r c gr j h l fs) (Failing.new_sequel p k ms g r h fs' b' l ch.after ch.seam ((mk h.method).behind gr j)) (record h { local = l } ∷ fs) fs'
+      Unwinding.answer_by p k ms g r (failure_cost k p) (ending (length fs)) _ _ _ ch.goes
+      (Checking.checks_so p k ms g r (ending (length fs)) w.depth w.heap fl (Failing.old_sequel p k ms g r c gr j h l fs) (Failing.new_sequel p k ms g r h fs' b' l ch.after ch.seam ch.maker ((mk h.method).behind gr j)) (record h { local = l } ∷ fs) fs'
       (record { passes_so = passes; throws_so = throws; makes_so = mk_so; stops_so = λ v ss2 bes. Arriving.stuck_both p k ms g r (ending (length fs)) v ss2 bes }) o.holds w ss z.alike refl refl)
     where
       l : LocalState

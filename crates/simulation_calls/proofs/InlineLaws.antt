@@ -45,7 +45,7 @@ use Rattle.cil_semantics.specs.Machine.{recall, read_argument}
 use Rattle.splice_facts.specs.Exceptions.{IsObject}
 use Rattle.splice_facts.specs.Bodies.{with_methods}
 use Rattle.splice_facts.specs.Grown.{grow, beside}
-use Rattle.splice_facts.specs.Comes.{Comes}
+use Rattle.splice_facts.specs.Comes.{Comes, Goes}
 use Rattle.splice_facts.specs.Input.{is_followed}
 use Rattle.splice_facts.specs.WellFormed.{WellFormedPointer, WellFormedValue, WellFormedValues}
 use Rattle.splice_facts.specs.Layout.{Marks, Keeps, IsHere, CanArrive}
@@ -62,7 +62,7 @@ use Rattle.simulation.proofs.UnwindLaws.{as_many, unwinds, unwinds_at}
 use Rattle.simulation_steps.proofs.ReturnLaws as Returning
 use Rattle.simulation_steps.proofs.PointerLaws.{reads, twins, stands_changed}
 use Rattle.simulation.proofs.ProgramLaws.{storage_same}
-use Rattle.splice_facts.proofs.ComesLaws.{comes_at_once}
+use Rattle.splice_facts.proofs.ComesLaws.{comes_at_once, moves_to_end}
 use Rattle.simulation_calls.proofs.CheckLaws as Checking
 use Rattle.simulation_calls.proofs.ClauseLaws as Clausing
 
@@ -135,6 +135,9 @@ module _ (p : Program) (k : Contracts) (ms : List MethodDesc) (g : AddedNumbers)
   abbrev To : ℕ → Next → Next → Type 0
   To n x y = Unwinding.To p k ms g r n x y
 
+  abbrev An : ℕ → Next → Next → Type 0
+  An n x y = Unwinding.An p k ms g r n x y
+
   abbrev lay : ℕ → ℕ
   lay n = Unwinding.lay p k ms g r n
 
@@ -185,9 +188,9 @@ module _ (p : Program) (k : Contracts) (ms : List MethodDesc) (g : AddedNumbers)
           named = z.named;
         }) z.alike z.deep some
 
-    pub captures_old : (n : ℕ) (i : Instr) → x.captures ≡ Some n → slice_get x.clause.instrs q ≡ Some i → contract_call p i ≡ TakesOld → To (cst + (4 * cst + lay (suc (suc (length fs))))) (capture p k c gr j n h h.local.stack fs w) (from h ex b' fs' w ss [])
+    pub captures_old : (n : ℕ) (i : Instr) → x.captures ≡ Some n → slice_get x.clause.instrs q ≡ Some i → contract_call p i ≡ TakesOld → An (cst + (4 * cst + lay (suc (suc (length fs))))) (capture p k c gr j n h h.local.stack fs w) (from h ex b' fs' w ss [])
     captures_old n i en ei call =
-        Unwinding.reach_by p k ms g r cst (4 * cst + lay (suc (suc (length fs)))) _ _ _ ((groups_of p k ms g r h.method c z.plan (z.stands).old).takes gr j q x i n h fs fs' w ex ss b' refl z.at is_here z.piece en ei call scene) (by_stack h.local.stack)
+        Unwinding.answer_by p k ms g r cst (4 * cst + lay (suc (suc (length fs)))) _ _ _ ((groups_of p k ms g r h.method c z.plan (z.stands).old).takes gr j q x i n h fs fs' w ex ss b' refl z.at is_here z.piece en ei call scene) (by_stack h.local.stack)
       where
         kept : List Value → Next
         kept vs = Rattle.splice_facts.specs.Spliced.kept_in p k p' g r.types r.depths vs n h ex b' fs' w ss ((mk h.method).behind gr j)
@@ -223,12 +226,19 @@ module _ (p : Program) (k : Contracts) (ms : List MethodDesc) (g : AddedNumbers)
         subst (λ y. To (n + lay (suc (length fs))) y start) (sym (ap (λ o. arrive_in p o h (moved_to t h.at) l h.handling fs w) z.plan ∙ in_piece t l h.at z.at))
         (Arriving.arrives_here p k ms g r n start h (moved_to t h.at) l b' fs fs' w (z.stands).old (subst (λ o. IsHere o (moved_to t h.at)) (sym z.plan) (is_there t h.at z.at can)) (record { extra = ex; keeps = kept_with l e; statics = ss; beside = z.alike; comes = comes }) z.under)
 
-    pub recalls_old : (o : ℕ × Old) (v : Cell) → recalled x q ≡ Some o → slice_get h.local.captured (x.first_captured + o.0) ≡ Some v → To (cst + lay (suc (length fs))) (recall p k g x o h fs w) (from h ex b' fs' w ss [])
+    -- the same in at least one step
+    moves_in_piece : (n : ℕ) (start : Next) (t : ℕ) (l : LocalState) → l ≡ with_stack h.local l.stack → CanArrive (Some c) (moved_to t h.at) → Goes p' n start (stands p k p' g r.types r.depths h l ex ((mk h.method).places (moved_to t h.at)) b' fs' w ss)
+        → An (n + lay (suc (length fs))) (arrive_in p (plan_at k p h.method) h (moved_to t h.at) l h.handling fs w) start
+    moves_in_piece n start t l e can goes =
+        Unwinding.answer_within p k ms g r (n + (0 + lay (suc (length fs)))) _ _ _ (omega arith)
+        (Unwinding.answer_by p k ms g r n (0 + lay (suc (length fs))) _ _ _ goes (goes_in_piece 0 _ t l e can (comes_at_once p' 0 _ _ refl)))
+
+    pub recalls_old : (o : ℕ × Old) (v : Cell) → recalled x q ≡ Some o → slice_get h.local.captured (x.first_captured + o.0) ≡ Some v → An (cst + lay (suc (length fs))) (recall p k g x o h fs w) (from h ex b' fs' w ss [])
     recalls_old o v eo ev =
         let a = (groups_of p k ms g r h.method c z.plan (z.stands).old).recalls gr j q x o v h fs fs' w ex ss b' refl z.at is_here z.piece eo ev scene in
-        subst (λ y. To (cst + lay (suc (length fs))) (if_there y w (λ (cell : Cell). arrive_in p (plan_at k p h.method) h (moved_to (o.1.to + 1) h.at) (pushed cell.value h.local) h.handling fs w)) (from h ex b' fs' w ss [])) (sym ev) (goes_in_piece cst _ (o.1.to + 1) (pushed v.value h.local) refl a.0 a.1)
+        subst (λ y. An (cst + lay (suc (length fs))) (if_there y w (λ (cell : Cell). arrive_in p (plan_at k p h.method) h (moved_to (o.1.to + 1) h.at) (pushed cell.value h.local) h.handling fs w)) (from h ex b' fs' w ss [])) (sym ev) (moves_in_piece cst _ (o.1.to + 1) (pushed v.value h.local) refl a.0 a.1)
 
-    pub gives_result : (i : Instr) → slice_get x.clause.instrs q ≡ Some i → contract_call p i ≡ GivesResult → HasResult p h h.at → recalled x q ≡ None → To (cst + lay (suc (length fs))) (if_there h.local.result w (λ v. go_on p k h (pushed v h.local) fs w)) (from h ex b' fs' w ss [])
+    pub gives_result : (i : Instr) → slice_get x.clause.instrs q ≡ Some i → contract_call p i ≡ GivesResult → HasResult p h h.at → recalled x q ≡ None → An (cst + lay (suc (length fs))) (if_there h.local.result w (λ v. go_on p k h (pushed v h.local) fs w)) (from h ex b' fs' w ss [])
     gives_result i ei call has un = by_result h.local.result refl
       where
         facts : (gr ≡ group.Exit) × (returned p h [] ≡ None)
@@ -237,9 +247,9 @@ module _ (p : Program) (k : Contracts) (ms : List MethodDesc) (g : AddedNumbers)
         is_there_now : IsTrue (is_some h.local.result)
         is_there_now = subst (λ y. HasResult p h (InGroup y j q)) facts.0 (subst (HasResult p h) z.at has) facts.1
 
-        by_result : (o : Option Value) → h.local.result ≡ o → To (cst + lay (suc (length fs))) (if_there o w (λ v. go_on p k h (pushed v h.local) fs w)) (from h ex b' fs' w ss [])
+        by_result : (o : Option Value) → h.local.result ≡ o → An (cst + lay (suc (length fs))) (if_there o w (λ v. go_on p k h (pushed v h.local) fs w)) (from h ex b' fs' w ss [])
         by_result None e = absurd (cc (sym (ap is_some e) ∙ is_there_now))
-        by_result (Some v) e = goes_in_piece cst _ (place_in h.at + 1) (pushed v h.local) refl (behind_call i ei un (ap is_followed call)) ((groups_of p k ms g r h.method c z.plan (z.stands).old).results gr j q x i v h fs fs' w ex ss b' refl z.at is_here z.piece ei call e scene)
+        by_result (Some v) e = moves_in_piece cst _ (place_in h.at + 1) (pushed v h.local) refl (behind_call i ei un (ap is_followed call)) ((groups_of p k ms g r h.method c z.plan (z.stands).old).results gr j q x i v h fs fs' w ex ss b' refl z.at is_here z.piece ei call e scene)
 
     -- what stands where a pointer leads, from the frame with this stack
     same_read : (rest : List Value) (y : Pointer) → WellFormedPointer (Pairs.bounds p k ms g r) y
@@ -250,9 +260,9 @@ module _ (p : Program) (k : Contracts) (ms : List MethodDesc) (g : AddedNumbers)
         (ex, refl, refl, as_many p k ms g r h.continuation b' fs fs' z.under, twins p k ms g r h.continuation b' fs fs' z.under) z.alike
 
     pub loads_through : (i : Instr) → slice_get x.clause.instrs q ≡ Some i → contract_call p i ≡ ReadsArgument → recalled x q ≡ None → WellFormedValues (Pairs.bounds p k ms g r) h.local.stack
-        → To (cst + lay (suc (length fs))) (read_argument p k g (meaning_here p (here_of h fs) i) h.local.stack h fs w) (from h ex b' fs' w ss [])
+        → An (cst + lay (suc (length fs))) (read_argument p k g (meaning_here p (here_of h fs) i) h.local.stack h fs w) (from h ex b' fs' w ss [])
     loads_through i ei call un fine =
-        Unwinding.reach_by p k ms g r cst (lay (suc (length fs))) _ _ _ ((groups_of p k ms g r h.method c z.plan (z.stands).old).loads gr j q x i h fs fs' w ex ss b' refl z.at is_here z.piece un ei call scene) (by_meaning (meaning_here p (here_of h fs) i) h.local.stack fine)
+        Unwinding.answer_by p k ms g r cst (lay (suc (length fs))) _ _ _ ((groups_of p k ms g r h.method c z.plan (z.stands).old).loads gr j q x i h fs fs' w ex ss b' refl z.at is_here z.piece un ei call scene) (by_meaning (meaning_here p (here_of h fs) i) h.local.stack fine)
       where
         L : List Value → LocalState
         L rest = with_stack h.local rest
@@ -324,9 +334,9 @@ module _ (p : Program) (k : Contracts) (ms : List MethodDesc) (g : AddedNumbers)
     is_no_requires (Rest q) y = y.1
 
     checked_so : (o : Condition) → Checked p k p' g r.types r.depths (mk h.method) h fs fs' w ex ss b' hs' (failure_here o.user) o.holds o.rest ((mk h.method).places (next_place h.at))
-        → To (failure_cost k p + (2 * cst + lay (suc (length fs)))) (check p k g (failure_here o.user) o.holds (record h { local = with_stack h.local o.rest } ∷ fs) w (λ v. go_on p k h (with_stack h.local o.rest) fs v)) (from h ex b' fs' w ss hs')
+        → An (failure_cost k p + (2 * cst + lay (suc (length fs)))) (check p k g (failure_here o.user) o.holds (record h { local = with_stack h.local o.rest } ∷ fs) w (λ v. go_on p k h (with_stack h.local o.rest) fs v)) (from h ex b' fs' w ss hs')
     checked_so o ch =
-        Unwinding.reach_by p k ms g r (failure_cost k p) (2 * cst + lay (suc (length fs))) _ _ _ ch.comes
+        Unwinding.answer_by p k ms g r (failure_cost k p) (2 * cst + lay (suc (length fs))) _ _ _ ch.goes
         (Checking.checks_so p k ms g r (2 * cst + lay (suc (length fs))) w.depth w.heap (failure_here o.user) (goes_on_from p k (record h { local = l } ∷ fs) (λ v. go_on p k h l fs v)) second (record h { local = l } ∷ fs) fs'
         (record { passes_so = passes; throws_so = throws; makes_so = λ v ss2 ty text e. absurd (call_checks p i kd (is_no_requires h.at is) e); stops_so = λ v ss2 bes. Arriving.stuck_both p k ms g r _ v ss2 bes }) o.holds w ss z.alike refl refl)
       where
@@ -341,7 +351,7 @@ module _ (p : Program) (k : Contracts) (ms : List MethodDesc) (g : AddedNumbers)
             record {
               passes = λ v. goes_at p' (Unwinding.tw p k ms g r h l ch.after ((mk h.method).places (next_place h.at)) hs' b') (Rest ((mk h.method).places (next_place h.at))) (grow ch.after l) hs' fs' v;
               throws = λ v y. unwind p' no_contracts false (Unwinding.tw p k ms g r h l ch.after ch.seam hs' b' ∷ fs') v y;
-              makes = λ v ty m values. Rattle.cil_semantics.specs.Calls.make p' no_contracts (Rattle.cil_semantics.specs.Calls.pushes_new p' no_contracts) ty m values (Unwinding.tw p k ms g r h l ch.after ch.seam hs' b' ∷ fs') v;
+              makes = λ v ty m values. Rattle.cil_semantics.specs.Calls.make p' no_contracts (Rattle.cil_semantics.specs.Calls.pushes_new p' no_contracts) ty m values (Unwinding.tw p k ms g r h l ch.after ch.maker hs' b' ∷ fs') v;
               stops = λ v. stuck v;
             }
 
@@ -368,7 +378,7 @@ module _ (p : Program) (k : Contracts) (ms : List MethodDesc) (g : AddedNumbers)
               own = (z.stands).initializes;
             })
 
-    pub checks_here : To (failure_cost k p + (2 * cst + lay (suc (length fs)))) (check_inline p k g c kd home label i h fs w) (from h ex b' fs' w ss hs')
+    pub checks_here : An (failure_cost k p + (2 * cst + lay (suc (length fs)))) (check_inline p k g c kd home label i h fs w) (from h ex b' fs' w ss hs')
     checks_here = by_level (rank c.settings.level == 4) refl
       where
         first : Bool → Next
@@ -376,18 +386,18 @@ module _ (p : Program) (k : Contracts) (ms : List MethodDesc) (g : AddedNumbers)
             if b then if_there (condition_in (has_message p i) h.local.stack) w (λ (o : Condition). check p k g (failure_here o.user) o.holds (record h { local = with_stack h.local o.rest } ∷ fs) w (λ v. go_on p k h (with_stack h.local o.rest) fs v))
             else if_there (dropped (has_message p i) h.local.stack) w (λ rest. go_on p k h (with_stack h.local rest) fs w)
 
-        by_condition : rank c.settings.level ≡ 4 → (o : Option Condition) → condition_in (has_message p i) h.local.stack ≡ o → To (failure_cost k p + (2 * cst + lay (suc (length fs)))) (if_there o w (λ (y : Condition). check p k g (failure_here y.user) y.holds (record h { local = with_stack h.local y.rest } ∷ fs) w (λ v. go_on p k h (with_stack h.local y.rest) fs v))) (from h ex b' fs' w ss hs')
+        by_condition : rank c.settings.level ≡ 4 → (o : Option Condition) → condition_in (has_message p i) h.local.stack ≡ o → An (failure_cost k p + (2 * cst + lay (suc (length fs)))) (if_there o w (λ (y : Condition). check p k g (failure_here y.user) y.holds (record h { local = with_stack h.local y.rest } ∷ fs) w (λ v. go_on p k h (with_stack h.local y.rest) fs v))) (from h ex b' fs' w ss hs')
         by_condition full None e =
-            Unwinding.reach_within p k ms g r (cst + 0) _ _ _ (omega arith)
-            (Unwinding.reach_by p k ms g r cst 0 _ _ _ ((groups_of p k ms g r h.method c z.plan (z.stands).old).asserts_stuck h fs fs' w ex ss b' hs' i kd label home refl z.here is full at_check z.current e) (Arriving.stuck_both p k ms g r 0 w ss z.alike))
+            Unwinding.answer_within p k ms g r (cst + 0) _ _ _ (omega arith)
+            (Unwinding.answer_by p k ms g r cst 0 _ _ _ (moves_to_end p' cst _ _ _ ((groups_of p k ms g r h.method c z.plan (z.stands).old).asserts_stuck h fs fs' w ex ss b' hs' i kd label home refl z.here is full at_check z.current e)) (Arriving.stuck_both p k ms g r 0 w ss z.alike))
         by_condition full (Some o) e = checked_so o ((groups_of p k ms g r h.method c z.plan (z.stands).old).asserts h fs fs' w ex ss b' hs' i kd o label home refl z.here is full at_check z.current e)
 
         by_rest : (o : Option (List Value)) → To (cst + lay (suc (length fs))) (if_there o w (λ rest. go_on p k h (with_stack h.local rest) fs w)) (if_there o (beside ss w) (λ rest. goes_at p' (Unwinding.tw p k ms g r h (with_stack h.local rest) ex ((mk h.method).places (next_place h.at)) hs' b') (Rest ((mk h.method).places (next_place h.at))) (grow ex (with_stack h.local rest)) hs' fs' (beside ss w)))
         by_rest None = Arriving.stuck_both p k ms g r _ w ss z.alike
         by_rest (Some rest) = goes_behind (with_stack h.local rest) ex w ss (record { typed = (z.keeps).typed; result = (z.keeps).result; thrown = (z.keeps).thrown; wide = (z.keeps).wide; caps = (z.keeps).caps }) z.alike z.deep
 
-        by_level : (b : Bool) → (rank c.settings.level == 4) ≡ b → To (failure_cost k p + (2 * cst + lay (suc (length fs)))) (first b) (from h ex b' fs' w ss hs')
+        by_level : (b : Bool) → (rank c.settings.level == 4) ≡ b → An (failure_cost k p + (2 * cst + lay (suc (length fs)))) (first b) (from h ex b' fs' w ss hs')
         by_level true e = by_condition (eqb-true (rank c.settings.level) 4 e) (condition_in (has_message p i) h.local.stack) refl
         by_level false e =
-            Unwinding.reach_within p k ms g r (cst + (cst + lay (suc (length fs)))) _ _ _ (omega arith)
-            (Unwinding.reach_by p k ms g r cst (cst + lay (suc (length fs))) _ _ _ ((groups_of p k ms g r h.method c z.plan (z.stands).old).drops_arguments h fs fs' w ex ss b' hs' i kd label home refl z.here is e at_check z.current) (by_rest (dropped (has_message p i) h.local.stack)))
+            Unwinding.answer_within p k ms g r (cst + (cst + lay (suc (length fs)))) _ _ _ (omega arith)
+            (Unwinding.answer_by p k ms g r cst (cst + lay (suc (length fs))) _ _ _ ((groups_of p k ms g r h.method c z.plan (z.stands).old).drops_arguments h fs fs' w ex ss b' hs' i kd label home refl z.here is e at_check z.current) (by_rest (dropped (has_message p i) h.local.stack)))

@@ -23,7 +23,7 @@ use Rattle.cil_semantics.specs.Unwind.{plan_at, begin_group, begin_piece, first_
 use Rattle.cil_semantics.specs.Frames.{if_there}
 use Rattle.cil_semantics.specs.Returns.{return_to, return_with, return_from, returns, returned, begin_invariants}
 use Rattle.cil_semantics.specs.Checks.{AddedNumbers}
-use Rattle.splice_facts.specs.Exceptions.{ObjectIf}
+use Rattle.splice_facts.specs.Exceptions.{ObjectIf, ExceptionIf}
 use Rattle.splice_facts.specs.Bodies.{with_methods}
 use Rattle.splice_facts.specs.Grown.{beside}
 use Rattle.splice_facts.specs.Layout.{Marks, Keeps, IsHere}
@@ -32,7 +32,7 @@ use Rattle.splice_facts.specs.Spliced as Spliced
 use Rattle.splice_facts.specs.Related.{Rewritten, Under, FramePair, count_groups, in_group}
 use Rattle.splice_facts.specs.Related as Pairs
 use Rattle.simulation_calls.specs.Rets as Rets
-use Rattle.splice_facts.proofs.ComesLaws.{no_plan}
+use Rattle.splice_facts.proofs.ComesLaws.{no_plan, moves_to_end}
 use Rattle.simulation.proofs.ArriveLaws as Arriving
 use Rattle.simulation.proofs.ArriveLaws.{group_begins, groups_of}
 use Rattle.simulation.proofs.UnwindLaws as Unwinding
@@ -47,6 +47,9 @@ module _ (p : Program) (k : Contracts) (ms : List MethodDesc) (g : AddedNumbers)
 
   abbrev To : ℕ → Next → Next → Type 0
   To n x y = Unwinding.To p k ms g r n x y
+
+  abbrev An : ℕ → Next → Next → Type 0
+  An n x y = Unwinding.An p k ms g r n x y
 
   abbrev lay : ℕ → ℕ
   lay n = Unwinding.lay p k ms g r n
@@ -95,9 +98,9 @@ module _ (p : Program) (k : Contracts) (ms : List MethodDesc) (g : AddedNumbers)
 
   -- in the rest of a body with contracts the value is kept and the groups at exit come
   pub rets_lifted : (c : Plan) (q : ℕ) (i : Instr) (f f' : Frame) (fs fs' : List Frame) (w : World) (ss : List Statics) (z : Rets.Ret p k ms g r f f' fs fs' w ss) → plan_at k p f.method ≡ Some c → f.at ≡ Rest q → Rattle.splice_facts.specs.Layout.fetch p k g (Some c) f.method f.at ≡ Some i → class_of i.op ≡ class.Return → f.thrown ≡ None → Rattle.splice_facts.specs.Spliced.has_exit p k p' g r.types r.depths c ≡ true → Rattle.splice_facts.specs.Spliced.Current p k p' g r.types r.depths f.method f.at f'.handling → ((v : Option Value) → returned p f f.local.stack ≡ Some v → length f.local.stack ≡ length (Rattle.splice_facts.specs.Input.top_of v))
-      → To (5 * cst + lay (suc (suc (length fs)))) (returns p k f fs w) (from_here p k p' g r.types r.depths (mk f.method) f ((z.top).pair.extra) f'.continuation fs' w ss f'.handling)
+      → An (5 * cst + lay (suc (suc (length fs)))) (returns p k f fs w) (from_here p k p' g r.types r.depths (mk f.method) f ((z.top).pair.extra) f'.continuation fs' w ss f'.handling)
   rets_lifted c q i f f' fs fs' w ss z e at there is bare exits current just =
-      subst (λ y. To (5 * cst + lay (suc (suc (length fs)))) (if_there (returned p f f.local.stack) w (λ v. return_from p k y f.at (with_local (record f.local { result = v }) f) fs w)) from) (sym e) (by_value (returned p f f.local.stack) refl)
+      subst (λ y. An (5 * cst + lay (suc (suc (length fs)))) (if_there (returned p f f.local.stack) w (λ v. return_from p k y f.at (with_local (record f.local { result = v }) f) fs w)) from) (sym e) (by_value (returned p f f.local.stack) refl)
     where
       from : Next
       from = from_here p k p' g r.types r.depths (mk f.method) f ((z.top).pair.extra) f'.continuation fs' w ss f'.handling
@@ -108,27 +111,27 @@ module _ (p : Program) (k : Contracts) (ms : List MethodDesc) (g : AddedNumbers)
       scene : Paired p k p' g r.types r.depths (mk f.method) f fs fs' w ((z.top).pair.extra) ss
       scene = record { keeps = (z.top).pair.keeps; beside = (z.top).alike; numbers = as_many p k ms g r f.continuation f'.continuation fs fs' (z.top).under; deep = (z.top).deep }
 
-      lifted : (v : Option Value) → returned p f f.local.stack ≡ Some v → To (5 * cst + lay (suc (suc (length fs)))) (begin_group p c group.Exit (with_local (record f.local { result = v }) f) fs w (begin_invariants p k c (with_local (record f.local { result = v }) f) fs w)) from
+      lifted : (v : Option Value) → returned p f f.local.stack ≡ Some v → An (5 * cst + lay (suc (suc (length fs)))) (begin_group p c group.Exit (with_local (record f.local { result = v }) f) fs w (begin_invariants p k c (with_local (record f.local { result = v }) f) fs w)) from
       lifted v s =
           let l : LocalState = record f.local { result = v } in
           let a = (groups_of p k ms g r f.method c e ((z.top).stands).old).lifts f fs fs' w ((z.top).pair.extra) ss f'.continuation f'.handling q i v refl z.named exits at here there is scene current s (just v s) in
           let over = begin_invariants p k c (with_local (with_stack l []) f) fs w in
-          let b = group_begins p k ms g r c group.Exit f (with_stack l []) a.extra f'.continuation fs fs' w a.statics over e ((z.top).stands).old (λ d. cc d) refl (subst (λ o. Unwinding.Fits p k ms g r group.Exit o) (sym bare) tt) a.keeps a.beside (as_many p k ms g r f.continuation f'.continuation fs fs' (z.top).under) (z.top).deep (z.top).under (4 * cst + lay (suc (suc (length fs)))) (omega arith)
+          let b = group_begins p k ms g r c group.Exit f (with_stack l []) (a.arrives).extra f'.continuation fs fs' w (a.arrives).statics over e ((z.top).stands).old (λ d. cc d) refl (subst (λ o. Unwinding.Fits p k ms g r group.Exit o) (sym bare) tt) (subst (ExceptionIf p w) (sym bare) tt) (a.arrives).keeps (a.arrives).beside (as_many p k ms g r f.continuation f'.continuation fs fs' (z.top).under) (z.top).deep (z.top).under (4 * cst + lay (suc (suc (length fs)))) (omega arith)
           (λ a1. Unwinding.reach_within p k ms g r (cst + (3 * cst + lay (suc (suc (length fs))))) _ _ _ (omega arith)
           (Unwinding.reach_by p k ms g r cst (3 * cst + lay (suc (suc (length fs)))) _ _ _ a1.comes
           (subst (λ y. To (3 * cst + lay (suc (suc (length fs)))) over (Spliced.stands p k p' g r.types r.depths f (with_stack l []) a1.extra y f'.continuation fs' w a1.statics)) (sym (groups_of p k ms g r f.method c e ((z.top).stands).old).then_invariants)
           (Returning.invariants_begin p k ms g r c f (with_stack l []) a1.extra f'.continuation fs fs' w a1.statics (exits, Rattle.splice_facts.proofs.StoreLaws.returned_stays p f f.local.stack v s) refl bare a1.beside
           (record { plan = e; old = ((z.top).stands).old; keeps = a1.keeps; under = (z.top).under; others = (z.top).others; own = ((z.top).stands).initializes; fine_back = z.fine_back; deep = (z.top).deep; count = z.outside; heap = z.heap; thrown = subst (ObjectIf (length w.heap)) (sym bare) tt; back = z.back; named = z.named }))))) in
-          Unwinding.reach_within p k ms g r (cst + (4 * cst + lay (suc (suc (length fs))))) _ _ _ (omega arith)
-          (Unwinding.reach_by p k ms g r cst (4 * cst + lay (suc (suc (length fs)))) _ _ _ a.comes
-          (subst (λ y. To (4 * cst + lay (suc (suc (length fs)))) y (Spliced.stands p k p' g r.types r.depths f (with_stack l []) a.extra ((mk f.method).door group.Exit) f'.continuation fs' w a.statics))
+          Unwinding.answer_within p k ms g r (cst + (4 * cst + lay (suc (suc (length fs))))) _ _ _ (omega arith)
+          (Unwinding.answer_by p k ms g r cst (4 * cst + lay (suc (suc (length fs)))) _ _ _ (record { comes = (a.arrives).comes; moves = a.moves })
+          (subst (λ y. To (4 * cst + lay (suc (suc (length fs)))) y (Spliced.stands p k p' g r.types r.depths f (with_stack l []) (a.arrives).extra ((mk f.method).door group.Exit) f'.continuation fs' w (a.arrives).statics))
           (Returning.group_stack p k ms g r c group.Exit f l fs w (begin_invariants p k c (with_local l f) fs w) over (Returning.group_stack p k ms g r c group.Invariant f l fs w (return_to p k (with_local l f) fs w) (return_to p k (with_local (with_stack l []) f) fs w) (Returning.stack_gone p k ms g r f l fs w))) b))
 
-      by_value : (v : Option (Option Value)) → returned p f f.local.stack ≡ v → To (5 * cst + lay (suc (suc (length fs)))) (if_there v w (λ v1. return_from p k (Some c) f.at (with_local (record f.local { result = v1 }) f) fs w)) from
+      by_value : (v : Option (Option Value)) → returned p f f.local.stack ≡ v → An (5 * cst + lay (suc (suc (length fs)))) (if_there v w (λ v1. return_from p k (Some c) f.at (with_local (record f.local { result = v1 }) f) fs w)) from
       by_value None s =
-          Unwinding.reach_within p k ms g r (cst + (4 * cst + lay (suc (suc (length fs))))) _ _ _ (omega arith)
-          (Unwinding.reach_by p k ms g r cst (4 * cst + lay (suc (suc (length fs)))) _ _ _ ((groups_of p k ms g r f.method c e ((z.top).stands).old).lifts_stuck f fs fs' w ((z.top).pair.extra) ss f'.continuation f'.handling q i refl z.named exits at here there is scene current s) (Arriving.stuck_both p k ms g r _ w ss (z.top).alike))
-      by_value (Some v) s = subst (λ y. To (5 * cst + lay (suc (suc (length fs)))) (return_from p k (Some c) y (with_local (record f.local { result = v }) f) fs w) from) (sym at) (lifted v s)
+          Unwinding.answer_within p k ms g r (cst + (4 * cst + lay (suc (suc (length fs))))) _ _ _ (omega arith)
+          (Unwinding.answer_by p k ms g r cst (4 * cst + lay (suc (suc (length fs)))) _ _ _ (moves_to_end p' cst _ _ _ ((groups_of p k ms g r f.method c e ((z.top).stands).old).lifts_stuck f fs fs' w ((z.top).pair.extra) ss f'.continuation f'.handling q i refl z.named exits at here there is scene current s)) (Arriving.stuck_both p k ms g r _ w ss (z.top).alike))
+      by_value (Some v) s = subst (λ y. An (5 * cst + lay (suc (suc (length fs)))) (return_from p k (Some c) y (with_local (record f.local { result = v }) f) fs w) from) (sym at) (lifted v s)
 
   -- where nothing is checked at exit, `ret` returns at once in the rest too
   no_pieces : (xs : List Piece) → Rattle.splice_facts.specs.Spliced.has_any p k p' g r.types r.depths xs ≡ false → xs ≡ []

@@ -29,7 +29,7 @@ use Rattle.splice_facts.specs.Input.{ReturnsAsNamed}
 use Rattle.splice_facts.specs.WellFormed.{WellFormedContinuation, WellFormedObjects}
 use Rattle.splice_facts.specs.Layout.{Keeps, IsHere}
 use Rattle.splice_facts.specs.Spliced.{Checked, StaysIn, clause_failure, from_here, twin, cost, failure_cost}
-use Rattle.splice_facts.specs.Related.{Rewritten, written, bounds, ReachesIn, per_frame, Under, Standing, AllStand, count_groups}
+use Rattle.splice_facts.specs.Related.{Rewritten, written, bounds, ReachesIn, per_frame, Under, Standing, AllStand, count_groups, AnswersIn}
 use Rattle.simulation_steps.specs.Steps.{BesideIn}
 
 module _ (p : Program) (k : Contracts) (ms : List MethodDesc) (g : AddedNumbers) (r : Rewritten p k ms g) where
@@ -78,13 +78,13 @@ module _ (p : Program) (k : Contracts) (ms : List MethodDesc) (g : AddedNumbers)
   abbrev pub twin_at : Frame → Local → List Cell → ℕ → Continuation → Frame
   twin_at h l ex q b' = twin p k (written p k ms g r) g r.types r.depths h l ex q [] b'
 
-  -- what the plain run does at the end of a clause: it goes on at a place, throws at the seam, or makes an exception there
-  abbrev pub new_sequel : Frame → List Frame → Continuation → Local → List Cell → (seam on : ℕ) → Sequel
-  new_sequel h fs' b' l after seam on =
+  -- what the plain run does at the end of a clause: it goes on at a place, throws at the seam, or makes an exception at another place of it
+  abbrev pub new_sequel : Frame → List Frame → Continuation → Local → List Cell → (seam maker on : ℕ) → Sequel
+  new_sequel h fs' b' l after seam maker on =
       record {
         passes = λ v. Running (record { frames = twin_at h l after on b' ∷ fs'; world = v });
         throws = λ v y. unwind (written p k ms g r) no_contracts false (twin_at h l after seam b' ∷ fs') v y;
-        makes = λ v ty c values. make (written p k ms g r) no_contracts (pushes_new (written p k ms g r) no_contracts) ty c values (twin_at h l after seam b' ∷ fs') v;
+        makes = λ v ty c values. make (written p k ms g r) no_contracts (pushes_new (written p k ms g r) no_contracts) ty c values (twin_at h l after maker b' ∷ fs') v;
         stops = λ v. stuck v;
       }
 
@@ -104,6 +104,6 @@ module _ (p : Program) (k : Contracts) (ms : List MethodDesc) (g : AddedNumbers)
   ClausesEndAlike =
       (c : Plan) (gr : Group) (j q : ℕ) (x : Piece) (h : Frame) (ex : List Cell) (b' : Continuation) (fs fs' : List Frame) (w : World) (ss : List Statics) (o : Condition) → InPiece c gr j q x h ex b' fs fs' w ss
       → (ch : Checked p k (written p k ms g r) g r.types r.depths (r.marks h.method) h fs fs' w ex ss b' [] (failure_of h fs x o) o.holds o.rest ((r.marks h.method).behind gr j))
-      → MakesAlike (failure_of h fs x o) (old_sequel c gr j h (with_stack h.local o.rest) fs) (new_sequel h fs' b' (with_stack h.local o.rest) ch.after ch.seam ((r.marks h.method).behind gr j)) (record h { local = with_stack h.local o.rest } ∷ fs) fs' (ending (length fs)) w.depth
-      → ReachesIn p k ms g r (failure_cost k p + ending (length fs)) (check p k g (failure_of h fs x o) o.holds (record h { local = with_stack h.local o.rest } ∷ fs) w (λ v. piece_over p k c gr j (with_local (with_stack h.local o.rest) h) fs v))
+      → MakesAlike (failure_of h fs x o) (old_sequel c gr j h (with_stack h.local o.rest) fs) (new_sequel h fs' b' (with_stack h.local o.rest) ch.after ch.seam ch.maker ((r.marks h.method).behind gr j)) (record h { local = with_stack h.local o.rest } ∷ fs) fs' (ending (length fs)) w.depth
+      → AnswersIn p k ms g r (failure_cost k p + ending (length fs)) (check p k g (failure_of h fs x o) o.holds (record h { local = with_stack h.local o.rest } ∷ fs) w (λ v. piece_over p k c gr j (with_local (with_stack h.local o.rest) h) fs v))
       (from_here p k (written p k ms g r) g r.types r.depths (r.marks h.method) h ex b' fs' w ss [])

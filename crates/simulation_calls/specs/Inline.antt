@@ -28,7 +28,7 @@ use Rattle.cil_semantics.specs.Machine.{recall, read_argument}
 use Rattle.splice_facts.specs.WellFormed.{WellFormedValues}
 use Rattle.splice_facts.specs.Layout.{Keeps, IsHere}
 use Rattle.splice_facts.specs.Spliced.{Current, IsInline, from_here, cost, failure_cost}
-use Rattle.splice_facts.specs.Related.{Rewritten, written, bounds, ReachesIn, per_frame, Under, Waits, Standing, AllStand, HasResult, count_groups, in_group}
+use Rattle.splice_facts.specs.Related.{Rewritten, written, bounds, AnswersIn, per_frame, Under, Waits, Standing, AllStand, HasResult, count_groups, in_group}
 use Rattle.simulation_steps.specs.Steps.{BesideIn}
 use Rattle.simulation_calls.specs.Failures.{InPiece, ending}
 
@@ -37,25 +37,25 @@ module _ (p : Program) (k : Contracts) (ms : List MethodDesc) (g : AddedNumbers)
   abbrev pub CapturesAlike : Type 0
   CapturesAlike =
       (c : Plan) (gr : Group) (j q n : ℕ) (x : Piece) (i : Instr) (h : Frame) (ex : List Cell) (b' : Continuation) (fs fs' : List Frame) (w : World) (ss : List Statics) → InPiece p k ms g r c gr j q x h ex b' fs fs' w ss → x.captures ≡ Some n → slice_get x.clause.instrs q ≡ Some i → contract_call p i ≡ TakesOld
-      → ReachesIn p k ms g r (cost k p + ending p k ms g r (length fs)) (capture p k c gr j n h h.local.stack fs w) (from_here p k (written p k ms g r) g r.types r.depths (r.marks h.method) h ex b' fs' w ss [])
+      → AnswersIn p k ms g r (cost k p + ending p k ms g r (length fs)) (capture p k c gr j n h h.local.stack fs w) (from_here p k (written p k ms g r) g r.types r.depths (r.marks h.method) h ex b' fs' w ss [])
 
   -- A clause pushes the captured value in place of the old range.
   abbrev pub RecallsAlike : Type 0
   RecallsAlike =
       (c : Plan) (gr : Group) (j q : ℕ) (x : Piece) (o : ℕ × Old) (v : Cell) (h : Frame) (ex : List Cell) (b' : Continuation) (fs fs' : List Frame) (w : World) (ss : List Statics) → InPiece p k ms g r c gr j q x h ex b' fs fs' w ss → recalled x q ≡ Some o → slice_get h.local.captured (x.first_captured + o.0) ≡ Some v
-      → ReachesIn p k ms g r (cost k p + per_frame p k ms g r (suc (length fs))) (recall p k g x o h fs w) (from_here p k (written p k ms g r) g r.types r.depths (r.marks h.method) h ex b' fs' w ss [])
+      → AnswersIn p k ms g r (cost k p + per_frame p k ms g r (suc (length fs))) (recall p k g x o h fs w) (from_here p k (written p k ms g r) g r.types r.depths (r.marks h.method) h ex b' fs' w ss [])
 
   -- Result pushes what the frame returns.
   abbrev pub ResultsAlike : Type 0
   ResultsAlike =
       (c : Plan) (gr : Group) (j q : ℕ) (x : Piece) (i : Instr) (h : Frame) (ex : List Cell) (b' : Continuation) (fs fs' : List Frame) (w : World) (ss : List Statics) → InPiece p k ms g r c gr j q x h ex b' fs fs' w ss → slice_get x.clause.instrs q ≡ Some i → contract_call p i ≡ GivesResult → HasResult p h h.at → recalled x q ≡ None
-      → ReachesIn p k ms g r (cost k p + per_frame p k ms g r (suc (length fs))) (if_there h.local.result w (λ v. go_on p k h (pushed v h.local) fs w)) (from_here p k (written p k ms g r) g r.types r.depths (r.marks h.method) h ex b' fs' w ss [])
+      → AnswersIn p k ms g r (cost k p + per_frame p k ms g r (suc (length fs))) (if_there h.local.result w (λ v. go_on p k h (pushed v h.local) fs w)) (from_here p k (written p k ms g r) g r.types r.depths (r.marks h.method) h ex b' fs' w ss [])
 
   -- ValueAtReturn pushes what a place of its type holds through its argument, as ldobj does.
   abbrev pub LoadsAlike : Type 0
   LoadsAlike =
       (c : Plan) (gr : Group) (j q : ℕ) (x : Piece) (i : Instr) (h : Frame) (ex : List Cell) (b' : Continuation) (fs fs' : List Frame) (w : World) (ss : List Statics) → InPiece p k ms g r c gr j q x h ex b' fs fs' w ss → slice_get x.clause.instrs q ≡ Some i → contract_call p i ≡ ReadsArgument → recalled x q ≡ None → WellFormedValues (bounds p k ms g r) h.local.stack
-      → ReachesIn p k ms g r (cost k p + per_frame p k ms g r (suc (length fs))) (read_argument p k g (meaning_here p (here_of h fs) i) h.local.stack h fs w) (from_here p k (written p k ms g r) g r.types r.depths (r.marks h.method) h ex b' fs' w ss [])
+      → AnswersIn p k ms g r (cost k p + per_frame p k ms g r (suc (length fs))) (read_argument p k g (meaning_here p (here_of h fs) i) h.local.stack h fs w) (from_here p k (written p k ms g r) g r.types r.depths (r.marks h.method) h ex b' fs' w ss [])
 
   -- a clause recalls no old value there
   abbrev pub NotRecalled : Plan → ProgramPoint → Type 0
@@ -81,4 +81,4 @@ module _ (p : Program) (k : Contracts) (ms : List MethodDesc) (g : AddedNumbers)
   abbrev pub ChecksHereAlike : Type 0
   ChecksHereAlike =
       (c : Plan) (i : Instr) (kd : ClauseKind) (label : Name) (home : ℕ) (h : Frame) (ex : List Cell) (b' : Continuation) (hs' : List Handling) (fs fs' : List Frame) (w : World) (ss : List Statics) → AtCheck c h ex b' hs' fs fs' w ss → IsInline p k (written p k ms g r) g r.types r.depths c h.method h fs h.at i kd home label
-      → ReachesIn p k ms g r (failure_cost k p + (2 * cost k p + per_frame p k ms g r (suc (length fs)))) (check_inline p k g c kd home label i h fs w) (from_here p k (written p k ms g r) g r.types r.depths (r.marks h.method) h ex b' fs' w ss hs')
+      → AnswersIn p k ms g r (failure_cost k p + (2 * cost k p + per_frame p k ms g r (suc (length fs)))) (check_inline p k g c kd home label i h fs w) (from_here p k (written p k ms g r) g r.types r.depths (r.marks h.method) h ex b' fs' w ss hs')

@@ -23,7 +23,7 @@ use Rattle.splice_facts.specs.WellFormed.{WellFormedContinuation, WellFormedObje
 use Rattle.splice_facts.specs.Input.{top_of, ReturnsAsNamed}
 use Rattle.splice_facts.specs.Layout.{fetch}
 use Rattle.splice_facts.specs.Spliced.{has_exit, Current, from_here, cost}
-use Rattle.splice_facts.specs.Related.{Rewritten, written, bounds, ReachesIn, per_frame, TopPair, count_groups}
+use Rattle.splice_facts.specs.Related.{Rewritten, written, bounds, ReachesIn, per_frame, TopPair, count_groups, AnswersIn}
 
 module _ (p : Program) (k : Contracts) (ms : List MethodDesc) (g : AddedNumbers) (r : Rewritten p k ms g) where
   -- a frame outside of groups that returns
@@ -53,4 +53,4 @@ module _ (p : Program) (k : Contracts) (ms : List MethodDesc) (g : AddedNumbers)
   RetsLifted =
       (c : Plan) (q : ℕ) (i : Instr) (f f' : Frame) (fs fs' : List Frame) (w : World) (ss : List Statics) (z : Ret f f' fs fs' w ss) → plan_at k p f.method ≡ Some c → f.at ≡ Rest q → fetch p k g (Some c) f.method f.at ≡ Some i → class_of i.op ≡ class.Return → f.thrown ≡ None → has_exit p k (written p k ms g r) g r.types r.depths c ≡ true
       → Current p k (written p k ms g r) g r.types r.depths f.method f.at f'.handling → ((v : Option Value) → returned p f f.local.stack ≡ Some v → length f.local.stack ≡ length (top_of v))
-      → ReachesIn p k ms g r (5 * cost k p + per_frame p k ms g r (suc (suc (length fs)))) (returns p k f fs w) (from_here p k (written p k ms g r) g r.types r.depths (r.marks f.method) f ((z.top).pair.extra) f'.continuation fs' w ss f'.handling)
+      → AnswersIn p k ms g r (5 * cost k p + per_frame p k ms g r (suc (suc (length fs)))) (returns p k f fs w) (from_here p k (written p k ms g r) g r.types r.depths (r.marks f.method) f ((z.top).pair.extra) f'.continuation fs' w ss f'.handling)

@@ -174,8 +174,15 @@ module _ (p : Program) (k : Contracts) (ms : List MethodDesc) (g : AddedNumbers)
     abbrev H : Frame
     H = record h { local = L }
 
+    abbrev at_place : ℕ → Frame
+    at_place t = Failing.twin_at p k ms g r h L ch.after t b'
+
     abbrev T : Frame
-    T = Failing.twin_at p k ms g r h L ch.after ch.seam b'
+    T = at_place ch.seam
+
+    -- where the exception is made
+    abbrev M : Frame
+    M = at_place ch.maker
 
     abbrev X : Failure
     X = Failing.failure_of p k ms g r h fs x o
@@ -184,13 +191,13 @@ module _ (p : Program) (k : Contracts) (ms : List MethodDesc) (g : AddedNumbers)
     S1 = Failing.old_sequel p k ms g r c gr j h L fs
 
     abbrev S2 : Sequel
-    S2 = Failing.new_sequel p k ms g r h fs' b' L ch.after ch.seam ((mk h.method).behind gr j)
+    S2 = Failing.new_sequel p k ms g r h fs' b' L ch.after ch.seam ch.maker ((mk h.method).behind gr j)
 
     abbrev N : ℕ
     N = ending (length fs)
 
-    pair : FramePair p k ms g r ch.seam H fs T
-    pair =
+    pair : (t : ℕ) → FramePair p k ms g r t H fs (at_place t)
+    pair t =
         record {
           extra = ch.after;
           same = refl;
@@ -207,10 +214,13 @@ module _ (p : Program) (k : Contracts) (ms : List MethodDesc) (g : AddedNumbers)
     deeps : (v : World) → v.depth ≡ w.depth → v.depth ≤ suc k.settings.guard
     deeps v e = subst (λ d. d ≤ suc k.settings.guard) (sym e) z.deep
 
-    throws_so : (v : World) (ss2 : List Statics) (y : ℕ) → IsBeside v ss2 → IsObject (length v.heap) y → v.depth ≡ w.depth → To N (unwind p k false (H ∷ fs) v y) (unwind p' no_contracts false (T ∷ fs') (beside ss2 v) y)
-    throws_so v ss2 y bes there e =
+    throws_at : (t : ℕ) → IsTrue ((mk h.method).belongs h.at t) → (v : World) (ss2 : List Statics) (y : ℕ) → IsBeside v ss2 → IsObject (length v.heap) y → v.depth ≡ w.depth → To N (unwind p k false (H ∷ fs) v y) (unwind p' no_contracts false (at_place t ∷ fs') (beside ss2 v) y)
+    throws_at t bel v ss2 y bes there e =
         Unwinding.reach_within p k ms g r (2 * cst + lay (suc (length fs))) _ _ _ (omega arith)
-        (pair_unwinds p k ms g r (ThrowObject y) (PushObject (Obj y)) ch.seam H T fs fs' refl refl pair z.here ch.belongs z.under stands (unwinds p k ms g r h.continuation b' fs fs' z.under z.others) v ss2 y bes there (counts v e) (deeps v e))
+        (pair_unwinds p k ms g r (ThrowObject y) (PushObject (Obj y)) t H (at_place t) fs fs' refl refl (pair t) z.here bel z.under stands (unwinds p k ms g r h.continuation b' fs fs' z.under z.others) v ss2 y bes there (counts v e) (deeps v e))
+
+    throws_so : (v : World) (ss2 : List Statics) (y : ℕ) → IsBeside v ss2 → IsObject (length v.heap) y → v.depth ≡ w.depth → To N (unwind p k false (H ∷ fs) v y) (unwind p' no_contracts false (T ∷ fs') (beside ss2 v) y)
+    throws_so v ss2 y bes there e = throws_at ch.seam ch.belongs v ss2 y bes there e
 
     stops_so : (v : World) (ss2 : List Statics) → IsBeside v ss2 → To N (stuck v) (stuck (beside ss2 v))
     stops_so v ss2 bes = Arriving.stuck_both p k ms g r N v ss2 bes
@@ -219,16 +229,16 @@ module _ (p : Program) (k : Contracts) (ms : List MethodDesc) (g : AddedNumbers)
     inside = subst (λ a. IsTrue (Pairs.is_in a)) (sym z.at) refl
 
     module _ (kd : X.kind ≡ kind.RequiresOf) where
-      seam : (y : ℕ) → Throws_here p k ms g r H ch.seam y
+      seam : (y : ℕ) → Throws_here p k ms g r H ch.maker y
       seam y =
           let t = seam_throws p k ms g r h fs fs' w ex ss b' [] X o.holds o.rest ((mk h.method).behind gr j) ch inside kd y in
           record { belongs = t.belongs; in_group = t.in_group; next = record { thrower = (t.next).thrower; belongs = (t.next).belongs; throws = (t.next).throws } }
 
       -- the first run throws what was made, the other pushes it and then throws it
-      throws_made : (v : World) (ss2 : List Statics) (y : ℕ) → IsBeside v ss2 → IsObject (length v.heap) y → v.depth ≡ w.depth → To N (unwind p k false (H ∷ fs) v y) (push_below p' no_contracts (Some (Obj y)) (T ∷ fs') (beside ss2 v))
+      throws_made : (v : World) (ss2 : List Statics) (y : ℕ) → IsBeside v ss2 → IsObject (length v.heap) y → v.depth ≡ w.depth → To N (unwind p k false (H ∷ fs) v y) (push_below p' no_contracts (Some (Obj y)) (M ∷ fs') (beside ss2 v))
       throws_made v ss2 y bes there e =
           Unwinding.reach_within p k ms g r (3 * cst + lay (suc (length fs))) _ _ _ (omega arith)
-          (Returning.makes_throw p k ms g r y ch.seam H T fs fs' v ss2 pair z.here (seam y) z.under stands z.others bes there (deeps v e) (counts v e))
+          (Returning.makes_throw p k ms g r y ch.maker H M fs fs' v ss2 (pair ch.maker) z.here (seam y) z.under stands z.others bes there (deeps v e) (counts v e))
 
       -- ---- outside
 
@@ -286,14 +296,14 @@ module _ (p : Program) (k : Contracts) (ms : List MethodDesc) (g : AddedNumbers)
         abbrev C : Member
         C = record (member_of p t m []) { params = without_this (member_of p t m []).params }
 
-        uses : (A A' : Answer) → AnswersObject A → AnswerThere A → Alike.BothAnswer p k ms g r Push Push 0 0 w.depth A A' → To N (use_answer p k (throws_new p k) (with_frames (H ∷ fs) A)) (use_answer p' no_contracts (pushes_new p' no_contracts) (with_frames (T ∷ fs') A'))
+        uses : (A A' : Answer) → AnswersObject A → AnswerThere A → Alike.BothAnswer p k ms g r Push Push 0 0 w.depth A A' → To N (use_answer p k (throws_new p k) (with_frames (H ∷ fs) A)) (use_answer p' no_contracts (pushes_new p' no_contracts) (with_frames (M ∷ fs') A'))
         unfolding Rattle.cil_model.specs.declared.value.Value.out-Value denote.Hole.Carrier.out
         uses (Returned a gs u) (Returned a' gs' u') is there y =
-            subst (λ b. To N (maybe (stuck u) (λ v1. (throws_new p k).now v1 (H ∷ fs) u) b) (maybe (stuck u') (λ v1. push_below p' no_contracts (Some v1) (T ∷ fs') u') a')) (sym is.1)
-            (subst (λ b. To N (unwind p k false (H ∷ fs) u is.0) (maybe (stuck u') (λ v1. push_below p' no_contracts (Some v1) (T ∷ fs') u') b)) (sym (y.0 ∙ is.1))
-            (subst (λ b. To N (unwind p k false (H ∷ fs) u is.0) (push_below p' no_contracts (Some (Obj is.0)) (T ∷ fs') b)) (sym (y.1).world) (throws_made u (y.1).statics is.0 (y.1).alike (there is.0 (ap (option_and_then (λ b. number_of_object (out-Value b))) is.1)) (y.1).depth)))
+            subst (λ b. To N (maybe (stuck u) (λ v1. (throws_new p k).now v1 (H ∷ fs) u) b) (maybe (stuck u') (λ v1. push_below p' no_contracts (Some v1) (M ∷ fs') u') a')) (sym is.1)
+            (subst (λ b. To N (unwind p k false (H ∷ fs) u is.0) (maybe (stuck u') (λ v1. push_below p' no_contracts (Some v1) (M ∷ fs') u') b)) (sym (y.0 ∙ is.1))
+            (subst (λ b. To N (unwind p k false (H ∷ fs) u is.0) (push_below p' no_contracts (Some (Obj is.0)) (M ∷ fs') b)) (sym (y.1).world) (throws_made u (y.1).statics is.0 (y.1).alike (there is.0 (ap (option_and_then (λ b. number_of_object (out-Value b))) is.1)) (y.1).depth)))
         uses (Threw a gs u) (Threw a' gs' u') is there y =
-            subst (λ b. To N (unwind p k false (H ∷ fs) u a) (unwind p' no_contracts false (T ∷ fs') u' b)) (sym y.0) (subst (λ b. To N (unwind p k false (H ∷ fs) u a) (unwind p' no_contracts false (T ∷ fs') b a)) (sym (y.1).world) (throws_so u (y.1).statics a (y.1).alike y.2 (y.1).depth))
+            subst (λ b. To N (unwind p k false (H ∷ fs) u a) (unwind p' no_contracts false (M ∷ fs') u' b)) (sym y.0) (subst (λ b. To N (unwind p k false (H ∷ fs) u a) (unwind p' no_contracts false (M ∷ fs') b a)) (sym (y.1).world) (throws_at ch.maker ch.maker_belongs u (y.1).statics a (y.1).alike y.2 (y.1).depth))
         uses (Unfit u) (Unfit u') is there y = subst (λ b. To N (stuck u) (stuck b)) (sym y.world) (stops_so u y.statics y.alike)
         uses (Returned a gs u) (Threw a' gs' u') is there y = absurd y
         uses (Returned a gs u) (Unfit u') is there y = absurd y
@@ -302,24 +312,24 @@ module _ (p : Program) (k : Contracts) (ms : List MethodDesc) (g : AddedNumbers)
         uses (Unfit u) (Returned a' gs' u') is there y = absurd y
         uses (Unfit u) (Threw a' gs' u') is there y = absurd y
 
-        by_outside : To N (make_outside p k (throws_new p k) t m values (H ∷ fs) v) (make_outside p' no_contracts (pushes_new p' no_contracts) t m values (T ∷ fs') (beside ss2 v))
+        by_outside : To N (make_outside p k (throws_new p k) t m values (H ∷ fs) v) (make_outside p' no_contracts (pushes_new p' no_contracts) t m values (M ∷ fs') (beside ss2 v))
         by_outside =
-            subst (λ a. To N (make_outside p k (throws_new p k) t m values (H ∷ fs) v) (use_answer p' no_contracts (pushes_new p' no_contracts) (ask_new p' t (record a { params = without_this a.params }) values (T ∷ fs') (beside ss2 v)))) (sym (Calling.member_same p k ms g r t m []))
-            (subst (λ a. To N (use_answer p k (throws_new p k) a) (use_answer p' no_contracts (pushes_new p' no_contracts) (ask_new p' t C values (T ∷ fs') (beside ss2 v)))) (sym (ask_new_frames p t C values (H ∷ fs) v plain))
-            (subst (λ a. To N (use_answer p k (throws_new p k) (with_frames (H ∷ fs) (ask_new p t C values [] v))) (use_answer p' no_contracts (pushes_new p' no_contracts) a)) (sym (ask_new_frames p' t C values (T ∷ fs') (beside ss2 v) plain))
+            subst (λ a. To N (make_outside p k (throws_new p k) t m values (H ∷ fs) v) (use_answer p' no_contracts (pushes_new p' no_contracts) (ask_new p' t (record a { params = without_this a.params }) values (M ∷ fs') (beside ss2 v)))) (sym (Calling.member_same p k ms g r t m []))
+            (subst (λ a. To N (use_answer p k (throws_new p k) a) (use_answer p' no_contracts (pushes_new p' no_contracts) (ask_new p' t C values (M ∷ fs') (beside ss2 v)))) (sym (ask_new_frames p t C values (H ∷ fs) v plain))
+            (subst (λ a. To N (use_answer p k (throws_new p k) (with_frames (H ∷ fs) (ask_new p t C values [] v))) (use_answer p' no_contracts (pushes_new p' no_contracts) a)) (sym (ask_new_frames p' t C values (M ∷ fs') (beside ss2 v) plain))
             (uses _ _ (ask_new_object p t C values [] v _ (made_of_class p t d set own.reference)) (ask_new_there p t C values [] v) (subst (λ n. Alike.BothAnswer p k ms g r Push Push 0 0 n (ask_new p t C values [] v) (ask_new p' t C values [] (beside ss2 v))) e (asks_alone t C values v ss2 bes plain)))))
 
         -- E has an initializer: it runs before, and may throw
-        by_own : To N (make_own p k (throws_new p k) t m values (H ∷ fs) v) (make_own p' no_contracts (pushes_new p' no_contracts) t m values (T ∷ fs') (beside ss2 v))
+        by_own : To N (make_own p k (throws_new p k) t m values (H ∷ fs) v) (make_own p' no_contracts (pushes_new p' no_contracts) t m values (M ∷ fs') (beside ss2 v))
         by_own =
             Unwinding.reach_within p k ms g r (cst + lay (suc (suc (suc (length fs))))) _ _ _ (omega arith)
-            (Making.makes_own_exception p k ms g r t m values (H ∷ fs) (T ∷ fs') v ss2 old own.below own.reference
-            (Under.throws (next_object v) ch.seam H T fs fs' pair z.here (seam (next_object v)) z.under) (stands, z.others) bes (deeps v e) (counts v e))
+            (Making.makes_own_exception p k ms g r t m values (H ∷ fs) (M ∷ fs') v ss2 old own.below own.reference
+            (Under.throws (next_object v) ch.maker H M fs fs' (pair ch.maker) z.here (seam (next_object v)) z.under) (stands, z.others) bes (deeps v e) (counts v e))
 
-        made_own : makes_delegate p t m values ≡ false → makes_delegate p' t m values ≡ false → To N (make p k (throws_new p k) t m values (H ∷ fs) v) (make p' no_contracts (pushes_new p' no_contracts) t m values (T ∷ fs') (beside ss2 v))
+        made_own : makes_delegate p t m values ≡ false → makes_delegate p' t m values ≡ false → To N (make p k (throws_new p k) t m values (H ∷ fs) v) (make p' no_contracts (pushes_new p' no_contracts) t m values (M ∷ fs') (beside ss2 v))
         made_own n1 n2 =
-            subst (λ a. To N a (make p' no_contracts (pushes_new p' no_contracts) t m values (T ∷ fs') (beside ss2 v))) (sym (made_by p k (throws_new p k) t m values (H ∷ fs) v n1 (no_core p t m d set)))
-            (subst (λ a. To N first a) (sym (made_by p' no_contracts (pushes_new p' no_contracts) t m values (T ∷ fs') (beside ss2 v) n2 (no_core p' t m d set)))
+            subst (λ a. To N a (make p' no_contracts (pushes_new p' no_contracts) t m values (M ∷ fs') (beside ss2 v))) (sym (made_by p k (throws_new p k) t m values (H ∷ fs) v n1 (no_core p t m d set)))
+            (subst (λ a. To N first a) (sym (made_by p' no_contracts (pushes_new p' no_contracts) t m values (M ∷ fs') (beside ss2 v) n2 (no_core p' t m d set)))
             (subst (λ a. To N first (second a (is_some (method_of p' m).body))) (sym (Calling.outside_same p k ms g r m))
             (subst (λ a. To N first (second (is_outside p m) a)) (sym ((r.same_methods m).has_body)) (by_tests (is_outside p m) (is_some (method_of p m).body)))))
           where
@@ -327,7 +337,7 @@ module _ (p : Program) (k : Contracts) (ms : List MethodDesc) (g : AddedNumbers)
             first = if is_outside p m then make_outside p k (throws_new p k) t m values (H ∷ fs) v else if is_some (method_of p m).body then make_own p k (throws_new p k) t m values (H ∷ fs) v else stuck v
 
             second : Bool → Bool → Next
-            second a1 a2 = if a1 then make_outside p' no_contracts (pushes_new p' no_contracts) t m values (T ∷ fs') (beside ss2 v) else if a2 then make_own p' no_contracts (pushes_new p' no_contracts) t m values (T ∷ fs') (beside ss2 v) else stuck (beside ss2 v)
+            second a1 a2 = if a1 then make_outside p' no_contracts (pushes_new p' no_contracts) t m values (M ∷ fs') (beside ss2 v) else if a2 then make_own p' no_contracts (pushes_new p' no_contracts) t m values (M ∷ fs') (beside ss2 v) else stuck (beside ss2 v)
 
             by_tests : (a1 a2 : Bool) → To N (if a1 then make_outside p k (throws_new p k) t m values (H ∷ fs) v else if a2 then make_own p k (throws_new p k) t m values (H ∷ fs) v else stuck v) (second a1 a2)
             by_tests true a2 = by_outside
@@ -359,5 +369,5 @@ module _ (p : Program) (k : Contracts) (ms : List MethodDesc) (g : AddedNumbers)
         by_set None s = made_outside kd ty text v ss2 bes e
         by_set (Some d) s = made_here kd ty d s (r.exceptions h.method c gr j x (here_of h fs) ty d (z.stands).old refl z.plan z.piece kd (made_is X ty mt) s) text v ss2 bes e
 
-    pub clause_done : To (failure_cost k p + N) (check p k g X o.holds (H ∷ fs) w (λ v. piece_over p k c gr j (with_local L h) fs v)) (from_here p k p' g r.types r.depths (mk h.method) h ex b' fs' w ss [])
+    pub clause_done : Unwinding.An p k ms g r (failure_cost k p + N) (check p k g X o.holds (H ∷ fs) w (λ v. piece_over p k c gr j (with_local L h) fs v)) (from_here p k p' g r.types r.depths (mk h.method) h ex b' fs' w ss [])
     clause_done = Clausing.condition_ends p k ms g r c gr j q x h ex b' fs fs' w ss o z ch makes_alike

@@ -62,7 +62,7 @@ module _ (p : Program) (k : Contracts) (ms : List MethodDesc) (g : AddedNumbers)
 
   pub call_step_answers : (f f' : Frame) (fs fs' : List Frame) (w : World) (ss : List Statics) (t : TopPair p k ms g r f f' fs fs' (unrecorded w) ss) (i : Instr) → fetch p k g (plan_at k p f.method) f.method f.at ≡ Some i → IsPlainAt p k p' g r.types r.depths f.method (plan_at k p f.method) f.at i → WellFormedObjects (bounds p k ms g r) w.heap
       → WellFormedAct (bounds p k ms g r) f.local (act p (here_of f fs) i (unrecorded w) f.local) → Sites.CallLeads p k ms g r f fs (unrecorded w) (act p (here_of f fs) i (unrecorded w) f.local) → step_frames p k g (f ∷ fs) (unrecorded w) ≡ run_plain p k g i f fs (unrecorded w)
-      → To (suc (Sites.call_cost p k ms g r (suc (length fs)))) (step p k g (record { frames = f ∷ fs; world = w })) (Running (record { frames = f' ∷ fs'; world = beside ss w }))
+      → Unwinding.An p k ms g r (suc (Sites.call_cost p k ms g r (suc (length fs)))) (step p k g (record { frames = f ∷ fs; world = w })) (Running (record { frames = f' ∷ fs'; world = beside ss w }))
   call_step_answers f f' fs fs' w ss t i e plain heap fine on first =
       Stepping.step_by p k ms g r (Sites.call_cost p k ms g r (suc (length fs))) (record { frames = f ∷ fs; world = w }) (record { frames = f' ∷ fs'; world = beside ss w }) refl
       (subst (λ z. To (Sites.call_cost p k ms g r (suc (length fs))) z (step_frames p' no_contracts none (f' ∷ fs') (beside ss (unrecorded w)))) (sym first)

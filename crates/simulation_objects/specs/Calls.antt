@@ -26,7 +26,7 @@ use Rattle.splice_facts.specs.WellFormed.{Bounds, WellFormedLocal, WellFormedVal
 use Rattle.splice_facts.specs.Spliced.{IsPlainAt, cost}
 use Rattle.splice_facts.specs.Layout.{Onward, fetch}
 use Rattle.splice_facts.specs.Acting.{WellFormedAct}
-use Rattle.splice_facts.specs.Related.{TopPair, Rewritten, written, bounds, ReachesIn, per_frame, Under, AllStand, count_groups}
+use Rattle.splice_facts.specs.Related.{TopPair, Rewritten, written, bounds, ReachesIn, per_frame, Under, AllStand, count_groups, AnswersIn}
 use Rattle.simulation_steps.specs.Steps.{BesideIn}
 
 -- The same body for each type and member.
@@ -97,4 +97,4 @@ module _ (p : Program) (k : Contracts) (ms : List MethodDesc) (g : AddedNumbers)
   CallStepsAnswered =
       (f f' : Frame) (fs fs' : List Frame) (w : World) (ss : List Statics) (t : TopPair p k ms g r f f' fs fs' (unrecorded w) ss) (i : Instr) → fetch p k g (plan_at k p f.method) f.method f.at ≡ Some i → IsPlainAt p k (written p k ms g r) g r.types r.depths f.method (plan_at k p f.method) f.at i → WellFormedObjects (bounds p k ms g r) w.heap
       → WellFormedAct (bounds p k ms g r) f.local (act p (here_of f fs) i (unrecorded w) f.local) → CallLeads f fs (unrecorded w) (act p (here_of f fs) i (unrecorded w) f.local) → step_frames p k g (f ∷ fs) (unrecorded w) ≡ run_plain p k g i f fs (unrecorded w)
-      → ReachesIn p k ms g r (suc (call_cost (suc (length fs)))) (step p k g (record { frames = f ∷ fs; world = w })) (Running (record { frames = f' ∷ fs'; world = beside ss w }))
+      → AnswersIn p k ms g r (suc (call_cost (suc (length fs)))) (step p k g (record { frames = f ∷ fs; world = w })) (Running (record { frames = f' ∷ fs'; world = beside ss w }))

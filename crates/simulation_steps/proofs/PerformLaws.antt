@@ -281,7 +281,7 @@ module _ (p : Program) (k : Contracts) (ms : List MethodDesc) (g : AddedNumbers)
       let new : Handling = record { handler = x.0; cause = Leaving u; place = q; next = x.0 + 1 } in
       let new' : Handling = record { handler = x'.0; cause = Leaving ((mk f.method).places (moved_to u f.at)); place = q'; next = x'.0 + 1 } in
       let at2 = moved_to x.1.handler_from f.at in
-      let first : HandlingPair (plan_at k p f.method) (mk f.method) (rows f.method) f.at new new' = record { handler = e0; next = ap (λ j. j + 1) e0; cause = refl; here = here; belongs = bel; leads = can; low = l.1 } in
+      let first : HandlingPair (plan_at k p f.method) (mk f.method) (rows f.method) f.at new new' = record { handler = e0; next = ap (λ j. j + 1) e0; cause = refl; here = here; belongs = bel; leads = can; low = l.1; behind = omega (arith, l.1) } in
       let a = Arriving.goes_here p k ms g r f at2 (with_stack f.local []) f.local (new ∷ hs) (new' ∷ hs') f'.handling ((mk f.method).places f.at) (t.pair).extra f'.continuation fs fs' w ss (t.stands).old l.0 (record { typed = (t.pair).keeps.typed; result = (t.pair).keeps.result; thrown = (t.pair).keeps.thrown; wide = (t.pair).keeps.wide; caps = (t.pair).keeps.caps })
       (as_waits f.at no1 (new ∷ hs) (new' ∷ hs') (Unwinding.moved_pairs (plan_at k p f.method) (mk f.method) (rows f.method) f.at x.1.handler_from (new ∷ hs) (new' ∷ hs') no1 (first, pairs))) t.under t.alike in
       Unwinding.reach_within p k ms g r (lay (suc (length fs))) _ _ _ (omega arith)
@@ -344,15 +344,15 @@ module _ (p : Program) (k : Contracts) (ms : List MethodDesc) (g : AddedNumbers)
       none_counted (Rest a) n1 e = omega (arith, e)
       none_counted (InGroup gr j a) n1 e = absurd n1
 
-  goes_on_throwing : (h : Frame) (at : ProgramPoint) (f' : Frame) (fs fs' : List Frame) (w : World) (ss : List Statics) (x : ℕ) (hs hs' : List Handling) (skip q q' : ℕ) (t : Top (record h { at = at }) f' fs fs' w ss) → Unwinding.is_no_group at → HandlingPairs (plan_at k p h.method) (mk h.method) (rows h.method) at hs hs' → IsHere (plan_at k p h.method) (moved_to q at) → IsTrue ((mk h.method).belongs (moved_to q at) q') → IsObject (length w.heap) x
+  goes_on_throwing : (h : Frame) (at : ProgramPoint) (f' : Frame) (fs fs' : List Frame) (w : World) (ss : List Statics) (x : ℕ) (hs hs' : List Handling) (skip q q' : ℕ) (t : Top (record h { at = at }) f' fs fs' w ss) → Unwinding.is_no_group at → HandlingPairs (plan_at k p h.method) (mk h.method) (rows h.method) at hs hs' → IsHere (plan_at k p h.method) (moved_to q at) → IsTrue ((mk h.method).belongs (moved_to q at) q') → skip ≤ rows h.method → IsObject (length w.heap) x
       → To (2 * cst + lay (suc (length fs))) (throws_in p k (record h { at = at }) hs skip q fs w x (λ s v y. unwind p k s fs v y)) (throws_in p' no_contracts f' hs' skip q' fs' (beside ss w) x (λ s v y. unwind p' no_contracts s fs' v y))
-  goes_on_throwing h (LeadIn a) f' fs fs' w ss x hs hs' skip q q' t no1 pairs here bel there =
+  goes_on_throwing h (LeadIn a) f' fs fs' w ss x hs hs' skip q q' t no1 pairs here bel most there =
       subst (λ z. To (2 * cst + lay (suc (length fs))) (throws_in p k (record h { at = LeadIn a }) hs skip q fs w x (λ s v y. unwind p k s fs v y)) (throws_in p' no_contracts z hs' skip q' fs' (beside ss w) x (λ s v y. unwind p' no_contracts s fs' v y))) (sym (t.pair).same)
       (Unwinding.throws_lead p k ms g r h a hs hs' f'.handling q q' skip _ (t.pair).extra f'.continuation fs fs' w ss x (outside_so h (LeadIn a) f' fs fs' w ss hs hs' q q' t no1 pairs here bel x there))
-  goes_on_throwing h (Rest a) f' fs fs' w ss x hs hs' skip q q' t no1 pairs here bel there =
+  goes_on_throwing h (Rest a) f' fs fs' w ss x hs hs' skip q q' t no1 pairs here bel most there =
       subst (λ z. To (2 * cst + lay (suc (length fs))) (throws_in p k (record h { at = Rest a }) hs skip q fs w x (λ s v y. unwind p k s fs v y)) (throws_in p' no_contracts z hs' skip q' fs' (beside ss w) x (λ s v y. unwind p' no_contracts s fs' v y))) (sym (t.pair).same)
-      (Unwinding.throws_rest p k ms g r h a hs hs' f'.handling q q' skip _ (t.pair).extra f'.continuation fs fs' w ss x (Unwinding.none_thrown p k ms g r h.thrown (t.stands).fits) (outside_so h (Rest a) f' fs fs' w ss hs hs' q q' t no1 pairs here bel x there))
-  goes_on_throwing h (InGroup gr j a) f' fs fs' w ss x hs hs' skip q q' t no1 pairs here bel there = absurd no1
+      (Unwinding.throws_rest p k ms g r h a hs hs' f'.handling q q' skip _ (t.pair).extra f'.continuation fs fs' w ss x (Unwinding.none_thrown p k ms g r h.thrown (t.stands).fits) most (outside_so h (Rest a) f' fs fs' w ss hs hs' q q' t no1 pairs here bel x there))
+  goes_on_throwing h (InGroup gr j a) f' fs fs' w ss x hs hs' skip q q' t no1 pairs here bel most there = absurd no1
 
   resumes_by : (c c' : Cause) (f f' : Frame) (fs fs' : List Frame) (w : World) (ss : List Statics) (h h' : Handling) (hs hs' : List Handling) (t : Top f f' fs fs' w ss) → Unwinding.is_no_group f.at → HandlingPair (plan_at k p f.method) (mk f.method) (rows f.method) f.at h h' → HandlingPairs (plan_at k p f.method) (mk f.method) (rows f.method) f.at hs hs' → c' ≡ Pairs.moved_cause (λ u. (mk f.method).places (moved_to u f.at)) c → Pairs.LeadsTo (plan_at k p f.method) f.at c → CauseThere (length w.heap) c
       → To (2 * cst + lay (suc (length fs))) (resume_cause p k h c hs f fs w) (resume_cause p' no_contracts h' c' hs' f' fs' (beside ss w))
@@ -361,7 +361,7 @@ module _ (p : Program) (k : Contracts) (ms : List MethodDesc) (g : AddedNumbers)
   resumes_by (Unwinding x) c' f f' fs fs' w ss h h' hs hs' t no1 pair pairs e lead there =
       subst (λ z. To (2 * cst + lay (suc (length fs))) (resume_cause p k h (Unwinding x) hs f fs w) (resume_cause p' no_contracts h' z hs' f' fs' (beside ss w))) (sym e)
       (subst (λ n. To (2 * cst + lay (suc (length fs))) (resume_cause p k h (Unwinding x) hs f fs w) (throws_in p' no_contracts f' hs' n h'.place fs' (beside ss w) x (λ s v y. unwind p' no_contracts s fs' v y))) (sym pair.next)
-      (goes_on_throwing f f.at f' fs fs' w ss x hs hs' h.next h.place h'.place t no1 pairs pair.here pair.belongs there))
+      (goes_on_throwing f f.at f' fs fs' w ss x hs hs' h.next h.place h'.place t no1 pairs pair.here pair.belongs pair.behind there))
   resumes_by (Leaving u) c' f f' fs fs' w ss h h' hs hs' t no1 pair pairs e lead there =
       subst (λ z. To (2 * cst + lay (suc (length fs))) (resume_cause p k h (Leaving u) hs f fs w) (resume_cause p' no_contracts h' z hs' f' fs' (beside ss w))) (sym e)
       (subst (λ n. To (2 * cst + lay (suc (length fs))) (resume_cause p k h (Leaving u) hs f fs w) (leave p' no_contracts n h'.place ((mk f.method).places (moved_to u f.at)) f' hs' fs' (beside ss w))) (sym pair.next)

@@ -33,8 +33,9 @@ use Rattle.splice_facts.specs.Layout.{Marks, Keeps, IsHere, CanArrive}
 use Rattle.splice_facts.specs.Spliced.{Paired, stands, Arrives}
 use Rattle.splice_facts.specs.Related.{Rewritten, HandlingPairs, Waits, FramePair, Under, count_groups, in_group}
 use Rattle.splice_facts.specs.Related as Pairs
+use Rattle.splice_facts.proofs.ExceptionLaws.{are_exceptions}
 use Rattle.splice_facts.proofs.ComesLaws.{found_piece}
-use Rattle.splice_facts.specs.Exceptions.{IsObject, ObjectIf, BackThere}
+use Rattle.splice_facts.specs.Exceptions.{IsObject, ObjectIf, BackThere, ExceptionIf}
 use Rattle.splice_facts.specs.Input.{ReturnsAsNamed}
 use Rattle.simulation.proofs.ArriveLaws as Arriving
 use Rattle.simulation.proofs.ArriveLaws.{group_begins, groups_of, arrives_here, rest_here}
@@ -197,7 +198,7 @@ module _ (p : Program) (k : Contracts) (ms : List MethodDesc) (g : AddedNumbers)
   pub invariants_begin : (c : Plan) (h : Frame) (l : LocalState) (ex : List Cell) (b' : Continuation) (fs fs' : List Frame) (w : World) (ss : List Statics) → Rattle.splice_facts.specs.Spliced.Stays p k p' g r.types r.depths c h l.result → l.stack ≡ [] → h.thrown ≡ None → IsBeside w ss → Over c h l ex b' fs fs' w ss
       → To (3 * cst + lay (suc (suc (length fs)))) (begin_invariants p k c (with_local l h) fs w) (at_new h l ex ((mk h.method).door group.Invariant) b' fs' w ss)
   invariants_begin c h l ex b' fs fs' w ss stays empty bare bes z =
-      group_begins p k ms g r c group.Invariant h l ex b' fs fs' w ss (return_to p k (with_local l h) fs w) z.plan z.old (λ d. cc d) empty (subst (λ o. Unwinding.Fits p k ms g r group.Invariant o) (sym bare) tt) z.keeps bes (as_many p k ms g r h.continuation b' fs fs' z.under) z.deep z.under (3 * cst + lay (suc (suc (length fs)))) (omega arith)
+      group_begins p k ms g r c group.Invariant h l ex b' fs fs' w ss (return_to p k (with_local l h) fs w) z.plan z.old (λ d. cc d) empty (subst (λ o. Unwinding.Fits p k ms g r group.Invariant o) (sym bare) tt) (subst (ExceptionIf p w) (sym bare) tt) z.keeps bes (as_many p k ms g r h.continuation b' fs fs' z.under) z.deep z.under (3 * cst + lay (suc (suc (length fs)))) (omega arith)
       (λ a.
       let rest = invariants_over c h (with_stack l []) a.extra b' fs fs' w a.statics stays a.beside (record { plan = z.plan; old = z.old; keeps = a.keeps; under = z.under; others = z.others; own = z.own; fine_back = z.fine_back; deep = z.deep; count = z.count; heap = z.heap; thrown = z.thrown; back = z.back; named = z.named }) in
       Unwinding.reach_within p k ms g r (cst + (2 * cst + lay (suc (suc (length fs))))) _ _ _ (omega arith)
@@ -253,7 +254,7 @@ module _ (p : Program) (k : Contracts) (ms : List MethodDesc) (g : AddedNumbers)
   piece_is_over c gr j x h l ex b' fs fs' w ss n stays fit there z bes deep some =
       let h1 : Frame = record h { local = l } in
       let scene : Paired p k p' g r.types r.depths (mk h.method) h1 fs fs' w ex ss = record { keeps = record { typed = z.keeps.typed; result = z.keeps.result; thrown = z.keeps.thrown; wide = z.keeps.wide; caps = z.keeps.caps }; beside = bes; numbers = as_many p k ms g r h.continuation b' fs fs' z.under; deep = deep } in
-      let a = (groups_of p k ms g r h.method c z.plan z.old).continues gr j x h1 fs fs' w ex ss b' there refl fit some scene in
+      let a = (groups_of p k ms g r h.method c z.plan z.old).continues gr j x h1 fs fs' w ex ss b' there refl fit (are_exceptions p w h.thrown r.rooted z.thrown) some scene in
       continued p k ms g r c gr h1 l b' fs fs' w (at_new h l ex ((mk h.method).behind gr j) b' fs' w ss) (group_over p k c gr (with_local l h) fs (lowered w)) (next_piece p c gr (j + 1) h fs w) z.plan z.old z.under (λ y e. found_piece p c gr (j + 1) h fs w y e) a (4 * cst + lay (suc (suc (length fs)))) (omega arith)
       (λ a1. Unwinding.reach_within p k ms g r (cst + (3 * cst + lay (suc (suc (length fs))))) _ _ _ (omega arith)
       (Unwinding.reach_by p k ms g r cst (3 * cst + lay (suc (suc (length fs)))) _ _ _ a1.comes

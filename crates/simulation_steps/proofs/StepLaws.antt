@@ -71,6 +71,9 @@ module _ (p : Program) (k : Contracts) (ms : List MethodDesc) (g : AddedNumbers)
   abbrev To : ℕ → Next → Next → Type 0
   To n x y = Unwinding.To p k ms g r n x y
 
+  abbrev An : ℕ → Next → Next → Type 0
+  An n x y = Unwinding.An p k ms g r n x y
+
   abbrev lay : ℕ → ℕ
   lay n = Unwinding.lay p k ms g r n
 
@@ -197,16 +200,19 @@ module _ (p : Program) (k : Contracts) (ms : List MethodDesc) (g : AddedNumbers)
   weight_told T (Ended o w) = refl
 
   -- a step of the first run is answered from the plain run's step, with nothing told before
-  pub step_by : (n : ℕ) (s s' : State) → s'.world.trace ≡ s.world.trace → To n (step_frames p k g s.frames (unrecorded s.world)) (step_frames p' no_contracts none s'.frames (unrecorded s'.world)) → To (suc n) (step p k g s) (Running s')
+  pub step_by : (n : ℕ) (s s' : State) → s'.world.trace ≡ s.world.trace → To n (step_frames p k g s.frames (unrecorded s.world)) (step_frames p' no_contracts none s'.frames (unrecorded s'.world)) → An (suc n) (step p k g s) (Running s')
   unfolding step
   step_by n s s' e h =
       let x = step_frames p k g s.frames (unrecorded s.world) in
       let y = step_frames p' no_contracts none s'.frames (unrecorded s'.world) in
       record {
-        steps = suc h.steps;
-        most = omega (arith, h.most, weight_told s.world.trace x);
-        same = subst (λ t. Match (Arriving.E p k ms g r) (Arriving.R p k ms g r) (goes_after s.world.trace x) (and_then (goes_after t y) (runs (plain_step p') h.steps))) (sym e)
-            (subst (Match (Arriving.E p k ms g r) (Arriving.R p k ms g r) (goes_after s.world.trace x)) (sym (told_so h.steps s.world.trace y)) (match_told s.world.trace x _ h.same));
+        moves = omega arith;
+        reaches = record {
+          steps = suc h.steps;
+          most = omega (arith, h.most, weight_told s.world.trace x);
+          same = subst (λ t. Match (Arriving.E p k ms g r) (Arriving.R p k ms g r) (goes_after s.world.trace x) (and_then (goes_after t y) (runs (plain_step p') h.steps))) (sym e)
+              (subst (Match (Arriving.E p k ms g r) (Arriving.R p k ms g r) (goes_after s.world.trace x)) (sym (told_so h.steps s.world.trace y)) (match_told s.world.trace x _ h.same));
+        };
       }
 
   -- ---- a copied instruction
@@ -241,7 +247,7 @@ module _ (p : Program) (k : Contracts) (ms : List MethodDesc) (g : AddedNumbers)
   pub plain_step_answers : (f f' : Frame) (fs fs' : List Frame) (w : World) (ss : List Statics) (t : Top f f' fs fs' (unrecorded w) ss) (i : Instr) → Rattle.splice_facts.specs.Layout.fetch p k g (plan_at k p f.method) f.method f.at ≡ Some i → Rattle.splice_facts.specs.Spliced.IsPlainAt p k p' g r.types r.depths f.method (plan_at k p f.method) f.at i
       → WellFormedAct (Pairs.bounds p k ms g r) f.local (act p (here_of f fs) i (unrecorded w) f.local) → LeadsOn f (act p (here_of f fs) i (unrecorded w) f.local) → ThrowsObject (length w.heap) f.handling (act p (here_of f fs) i (unrecorded w) f.local)
       → step_frames p k g (f ∷ fs) (unrecorded w) ≡ run_plain p k g i f fs (unrecorded w)
-      → To (suc (2 * cst + lay (suc (suc (length fs))))) (step p k g (record { frames = f ∷ fs; world = w })) (Running (record { frames = f' ∷ fs'; world = beside ss w }))
+      → An (suc (2 * cst + lay (suc (suc (length fs))))) (step p k g (record { frames = f ∷ fs; world = w })) (Running (record { frames = f' ∷ fs'; world = beside ss w }))
   plain_step_answers f f' fs fs' w ss t i e plain fine on there first =
       step_by (2 * cst + lay (suc (suc (length fs)))) (record { frames = f ∷ fs; world = w }) (record { frames = f' ∷ fs'; world = beside ss w }) refl
       (subst (λ z. To (2 * cst + lay (suc (suc (length fs)))) z (step_frames p' no_contracts none (f' ∷ fs') (beside ss (unrecorded w)))) (sym first)

@@ -4,6 +4,7 @@ use Rattle.std.specs.Prelude.{if◌then◌else◌, option_map, option_and_then, 
 use Rattle.cil_model.specs.declared.ty.Ty.{Ty, Prim, Known, Outside, Array', ByRef', Var, MVar, Opaque, Inst'}
 use Rattle.cil_model.specs.declared.value.Value.{Value, Ptr}
 use Rattle.cil_model.specs.declared.value.Pointer.TheVariants.{Arg}
+use Rattle.cil_model.specs.declared.body.Region.{Region}
 use Rattle.cil_model.specs.declared.contract.Contracts.{Contracts}
 use Rattle.cil_model.specs.declared.program.Program.{Program}
 use Rattle.cil_model.specs.declared.program.MethodDesc.{MethodDesc}
@@ -19,7 +20,7 @@ use Rattle.cil_semantics.specs.State.{Next}
 use Rattle.cil_semantics.specs.declared.state.Continuation.{Continuation}
 use Rattle.cil_semantics.specs.declared.state.Continuation.TheVariants.{BeginCallee, PushStruct}
 use Rattle.cil_semantics.specs.Contracted.{Plan}
-use Rattle.cil_semantics.specs.Unwind.{body_of, plan_at, hasnt_begun, unwind}
+use Rattle.cil_semantics.specs.Unwind.{body_of, plan_at, hasnt_begun, unwind, handled_at}
 use Rattle.cil_semantics.specs.Frames.{if_there, static_cells, initializer, Initializer, Ready, FailedWith, ToRun, with_begun, param_types, stored_args, clause_tys, captured_tys, first_place, frame_with, begin, initializer_frame, begin_behind, is_use, begin_use, enter, enter_struct}
 use Rattle.cil_semantics.specs.Checks.{AddedNumbers}
 use Rattle.machine_laws.specs.Answers.{is_below}
@@ -102,6 +103,10 @@ module _ (p : Program) (k : Contracts) (ms : List MethodDesc) (g : AddedNumbers)
   counted_first f None = tt
   counted_first f (Some c) = tt
 
+  none_first : (rs : List Region) (o : Option Plan) → handled_at rs (first_place o) [] ≡ []
+  none_first rs None = refl
+  none_first rs (Some c) = refl
+
   abbrev new_frame : Ty → ℕ → List Ty → List Cell → Continuation → Option Ty → List Frame → Frame
   new_frame owner m args cells b o fs = record (frame_with p k owner m args cells b fs) { initializes = o }
 
@@ -114,7 +119,7 @@ module _ (p : Program) (k : Contracts) (ms : List MethodDesc) (g : AddedNumbers)
         has_result = result_first (new_frame owner m args cells b o fs) (plan_at k p m);
         fine = record { args = fc; locals = defaults_fine Bs p (local_tys p here (body_of p m).locals ++ clause_tys p here (plan_at k p m)); captured = defaults_fine Bs p (captured_tys p here (plan_at k p m)); result = tt; stack = tt };
         fine_back = fb;
-        current = λ e. (tt, refl);
+        current = λ e. (tt, none_first (body_of p m).regions (plan_at k p m));
         leads = λ e. tt;
       }
 

@@ -5,6 +5,7 @@ use Rattle.cil_model.specs.declared.contract.Effective.{Effective}
 use Rattle.cil_model.specs.declared.contract.Group.{Group}
 use Rattle.cil_model.specs.declared.program.Program.{Program}
 use Rattle.cil_model.specs.NoContracts.{no_contracts}
+use Rattle.cil_model.specs.declared.run.Outcome.{Outcome}
 use Rattle.cil_semantics.specs.Lookups.{method_of}
 use Rattle.cil_semantics.specs.declared.state.World.{World}
 use Rattle.cil_semantics.specs.declared.state.Local.{Local}
@@ -18,7 +19,7 @@ use Rattle.cil_semantics.specs.Machine.{and_then, runs}
 use Rattle.machine_laws.specs.Simulation.{weight, Match}
 use Rattle.machine_laws.specs.Same.{plain_step}
 use Rattle.machine_laws.proofs.LiftLaws.{runs_plus}
-use Rattle.splice_facts.specs.Comes.{Comes, Reaches}
+use Rattle.splice_facts.specs.Comes.{Comes, Goes, Reaches, Answers}
 
 -- ---- a plain run has no plan
 
@@ -66,6 +67,44 @@ module _ (p' : Program) where
   pub comes_one : (n : ℕ) (s : State) (y : Next) → Comes p' n (plain_step p' s) y → Comes p' (suc n) (Running s) y
   comes_one n s y a = record { steps = suc a.steps; most = omega (arith, a.most); comes = a.comes }
 
+  -- ---- the same in at least one step
+
+  pub moves_one : (n : ℕ) (s : State) (y : Next) → Comes p' n (plain_step p' s) y → Goes p' (suc n) (Running s) y
+  moves_one n s y a = record { comes = record { steps = suc a.steps; most = omega (arith, a.most); comes = a.comes }; moves = omega arith }
+
+  pub moves_on : (m n : ℕ) (x y z : Next) → Goes p' m x y → Comes p' n y z → Goes p' (m + n) x z
+  moves_on m n x y z a b =
+      record {
+        comes = record {
+          steps = (a.comes).steps + b.steps;
+          most = omega (arith, (a.comes).most, b.most);
+          comes = and_then_runs x (a.comes).steps b.steps ∙ ap (λ t. and_then t (runs (plain_step p') b.steps)) (a.comes).comes ∙ b.comes;
+        };
+        moves = omega (arith, a.moves);
+      }
+
+  pub moves_behind : (m n : ℕ) (x y z : Next) → Comes p' m x y → Goes p' n y z → Goes p' (m + n) x z
+  moves_behind m n x y z a b =
+      record {
+        comes = record {
+          steps = a.steps + (b.comes).steps;
+          most = omega (arith, a.most, (b.comes).most);
+          comes = and_then_runs x a.steps (b.comes).steps ∙ ap (λ t. and_then t (runs (plain_step p') (b.comes).steps)) a.comes ∙ (b.comes).comes;
+        };
+        moves = omega (arith, b.moves);
+      }
+
+  pub moves_within : (m n : ℕ) (x y : Next) → m ≤ n → Goes p' m x y → Goes p' n x y
+  moves_within m n x y le a = record { comes = record { steps = (a.comes).steps; most = omega (arith, (a.comes).most); comes = (a.comes).comes }; moves = a.moves }
+
+  -- a run that goes on ends after a step at least
+  pub moves_to_end : (n : ℕ) (s : State) (o : Outcome) (w : World) → Comes p' n (Running s) (Ended o w) → Goes p' n (Running s) (Ended o w)
+  moves_to_end n s o w c = record { comes = c; moves = by_steps c.steps c.comes }
+    where
+      by_steps : (j : ℕ) → and_then (Running s) (runs (plain_step p') j) ≡ Ended o w → 1 ≤ j
+      by_steps zero e = absurd (cc e)
+      by_steps (suc j) e = omega arith
+
   module _ (E : World → World → Type 0) (R : State → State → Type 0) (f : State → ℕ) where
     pub reaches_by : (m n : ℕ) (x y z : Next) → Comes p' m y z → Reaches p' E R f n x z → Reaches p' E R f (m + n) x y
     reaches_by m n x y z c h =
@@ -80,6 +119,20 @@ module _ (p' : Program) where
 
     pub reaches_at_once : (n : ℕ) (x y : Next) → weight f x ≤ n → Match E R x y → Reaches p' E R f n x y
     reaches_at_once n x y le h = record { steps = 0; most = omega (arith, le); same = subst (Match E R x) (sym (no_steps y)) h }
+
+    pub answers_by : (m n : ℕ) (x y z : Next) → Goes p' m y z → Reaches p' E R f n x z → Answers p' E R f (m + n) x y
+    answers_by m n x y z c h =
+        record {
+          reaches = record {
+            steps = (c.comes).steps + h.steps;
+            most = omega (arith, (c.comes).most, h.most);
+            same = subst (Match E R x) (sym (and_then_runs y (c.comes).steps h.steps ∙ ap (λ t. and_then t (runs (plain_step p') h.steps)) (c.comes).comes)) h.same;
+          };
+          moves = omega (arith, c.moves);
+        }
+
+    pub answers_within : (m n : ℕ) (x y : Next) → m ≤ n → Answers p' E R f m x y → Answers p' E R f n x y
+    answers_within m n x y le h = record { reaches = record { steps = (h.reaches).steps; most = omega (arith, (h.reaches).most); same = (h.reaches).same }; moves = h.moves }
 
 -- ---- pieces
 

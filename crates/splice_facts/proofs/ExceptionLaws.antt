@@ -15,7 +15,7 @@ use Rattle.cil_semantics.specs.declared.state.Cause.{Cause}
 use Rattle.cil_semantics.specs.declared.state.Cause.TheVariants.{Caught, Unwinding, Leaving}
 use Rattle.cil_semantics.specs.declared.state.Handling.{Handling}
 use Rattle.cil_semantics.specs.Unwind.{set_statics, find_statics, innermost}
-use Rattle.splice_facts.specs.Exceptions.{IsException, IsObject, ObjectIf, FailureThere, FailuresThere, CauseThere, CausesThere}
+use Rattle.splice_facts.specs.Exceptions.{IsException, IsObject, ObjectIf, FailureThere, FailuresThere, CauseThere, CausesThere, ExceptionIf}
 
 pub more_object : (n m x : ℕ) → n ≤ m → IsObject n x → IsObject m x
 more_object n m x le there = (there.0, omega (arith, there.1))
@@ -80,6 +80,10 @@ is_exception p w (suc k) rooted there = by_object (slice_get w.heap k) (is_there
     by_object : (o : Option Object) → (y : Object) × (o ≡ Some y) → maybe false (λ u. is_sub p u object_ty) (option_map (λ (z : Object). z.ty) o) ≡ true
     by_object None e = absurd (cc e.1)
     by_object (Some y) e = rooted y.ty
+
+pub are_exceptions : (p : Program) (w : World) (o : Option ℕ) → ((t : Ty) → is_sub p t object_ty ≡ true) → ObjectIf (length w.heap) o → ExceptionIf p w o
+are_exceptions p w None rooted there = tt
+are_exceptions p w (Some x) rooted there = is_exception p w x rooted there
 
 -- the object of the innermost catch
 pub caught_there : (n : ℕ) (hs : List Handling) → CausesThere n hs → ObjectIf n (innermost hs)

@@ -18,6 +18,11 @@ use Rattle.cil_semantics.specs.declared.state.Continuation.TheVariants.{ThrowObj
 abbrev pub IsException : Program → World → ℕ → Type 0
 IsException p w x = fits_type p w x (Some object_ty) ≡ true
 
+-- what a group looks at, if anything, is an exception
+abbrev pub ExceptionIf : Program → World → Option ℕ → Type 0
+ExceptionIf p w None = Unit {0}
+ExceptionIf p w (Some x) = IsException p w x
+
 -- the number of one of n objects
 abbrev pub IsObject : ℕ → ℕ → Type 0
 IsObject n x = (0 < x) × (x ≤ n)

@@ -47,7 +47,7 @@ use Rattle.splice_facts.specs.Bodies.{with_methods, SameMethods}
 use Rattle.splice_facts.specs.Grown.{beside}
 use Rattle.machine_laws.specs.Answers.{Each, is_below}
 use Rattle.splice_facts.specs.WellFormed.{Bounds, NoneVoid, WellFormedLocal, WellFormedWorld, WellFormedContinuation}
-use Rattle.splice_facts.specs.Comes.{Reaches}
+use Rattle.splice_facts.specs.Comes.{Reaches, Answers}
 use Rattle.splice_facts.specs.Exceptions.{IsObject, ThrowsObject}
 use Rattle.splice_facts.specs.Input.{InputFacts, StackHeights, result_count, access_count, is_group}
 use Rattle.splice_facts.specs.Layout.{Depths, Marks, Keeps, IsHere, CanArrive, Onward, fetch}
@@ -134,6 +134,8 @@ pub record HandlingPair (plan : Option Plan) (m : Marks) (rows : ℕ) (at : Prog
   pub belongs : IsTrue (m.belongs (moved_to h.place at) h'.place)
   pub leads : LeadsTo plan at h.cause
   pub low : h.handler < rows
+  -- a search goes on behind the row of the handler
+  pub behind : h.next ≤ rows
 
 abbrev pub HandlingPairs : Option Plan → Marks → ℕ → ProgramPoint → List Handling → List Handling → Type 0
 HandlingPairs plan m rows at [] [] = Unit {0}
@@ -199,7 +201,7 @@ module _ (p : Program) (k : Contracts) (ms : List MethodDesc) (g : AddedNumbers)
   abbrev pub SeamsThrow : Type 0
   SeamsThrow =
       (f : Frame) (fs fs' : List Frame) (w : World) (ex : List Cell) (ss : List Statics) (b : Continuation) (hs : List Handling) (x : Failure) (holds : Bool) (rest : List Value) (on : ℕ)
-      (c : Checked p k written g r.types r.depths (marks_in f.method) f fs fs' w ex ss b hs x holds rest on) → IsTrue (is_in f.at) → x.kind ≡ kind.RequiresOf → (y : ℕ) → Throws_here f c.seam y
+      (c : Checked p k written g r.types r.depths (marks_in f.method) f fs fs' w ex ss b hs x holds rest on) → IsTrue (is_in f.at) → x.kind ≡ kind.RequiresOf → (y : ℕ) → Throws_here f c.maker y
 
   -- The frames below one that has these backs: they wait for its value, have not begun, or wait to throw what it made.
   pub data Under : Continuation → Continuation → List Frame → List Frame → Type 0 where
@@ -338,6 +340,10 @@ module _ (p : Program) (k : Contracts) (ms : List MethodDesc) (g : AddedNumbers)
   abbrev pub ReachesIn : ℕ → Next → Next → Type 0
   ReachesIn n x y = Reaches written (AlikeWorlds r.types) Related laid_by n x y
 
+  -- the same in at least one step
+  abbrev pub AnswersIn : ℕ → Next → Next → Type 0
+  AnswersIn n x y = Answers written (AlikeWorlds r.types) Related laid_by n x y
+
   abbrev pub Unwinds_alike : Type 0
   Unwinds_alike =
       (b b' : Continuation) (fs fs' : List Frame) → Under b b' fs fs' → AllStand fs → (w : World) (ss : List Statics) (x : ℕ) → Beside p k written g r.types r.depths w ss → IsObject (length w.heap) x → w.depth ≡ count_groups fs → w.depth ≤ suc k.settings.guard
@@ -352,4 +358,4 @@ module _ (p : Program) (k : Contracts) (ms : List MethodDesc) (g : AddedNumbers)
   Plain_steps_answered =
       (f f' : Frame) (fs fs' : List Frame) (w : World) (ss : List Statics) (t : TopPair f f' fs fs' (unrecorded w) ss) (i : Instr) → fetch p k g (plan_in f.method) f.method f.at ≡ Some i → IsPlainAt p k written g r.types r.depths f.method (plan_in f.method) f.at i
       → WellFormedAct bounds f.local (act p (here_of f fs) i (unrecorded w) f.local) → ActLeads f (act p (here_of f fs) i (unrecorded w) f.local) → ThrowsObject (length w.heap) f.handling (act p (here_of f fs) i (unrecorded w) f.local) → step_frames p k g (f ∷ fs) (unrecorded w) ≡ run_plain p k g i f fs (unrecorded w)
-      → ReachesIn (suc (2 * cost k p + per_frame (suc (suc (length fs))))) (step p k g (record { frames = f ∷ fs; world = w })) (Running (record { frames = f' ∷ fs'; world = beside ss w }))
+      → AnswersIn (suc (2 * cost k p + per_frame (suc (suc (length fs))))) (step p k g (record { frames = f ∷ fs; world = w })) (Running (record { frames = f' ∷ fs'; world = beside ss w }))

@@ -33,7 +33,7 @@ use Rattle.il_opcodes.specs.declared.class.Class.TheVariants as class
 use Rattle.il_opcodes.specs.Opcodes.{class_of}
 use Rattle.cil_semantics.specs.Tokens.{Here, ref_type, local_tys, meaning_here}
 use Rattle.cil_semantics.specs.Contracted.{Piece, Plan, rank, runs_at, pieces}
-use Rattle.cil_semantics.specs.Unwind.{body_of, plan_at, piece_at, here_of, place_in, moved_to, next_place, in_try, in_handler, next_piece, Found, NoHandler, CatchHandler, CleanupHandler, search_from, searched, left_from, set_statics, find_statics, ends_frame, throws_in, unwind, drops, Below}
+use Rattle.cil_semantics.specs.Unwind.{body_of, plan_at, piece_at, here_of, place_in, moved_to, next_place, in_try, in_handler, handled_at, next_piece, Found, NoHandler, CatchHandler, CleanupHandler, search_from, searched, left_from, set_statics, find_statics, ends_frame, throws_in, unwind, drops, Below}
 use Rattle.cil_semantics.specs.Frames.{stuck, if_there, read, clause_tys, captured_tys, first_place}
 use Rattle.cil_semantics.specs.Returns.{return_with, returned, push_below}
 use Rattle.cil_semantics.specs.Calls.{call_member, is_core_exception, pointed}
@@ -44,8 +44,8 @@ use Rattle.cil_semantics.specs.Checks.{AddedNumbers, Failure, Condition, conditi
 use Rattle.machine_laws.specs.Same.{most_clauses}
 use Rattle.splice_facts.specs.Grown.{grow, beside, IsCopy}
 use Rattle.machine_laws.specs.Answers.{is_below}
-use Rattle.splice_facts.specs.Comes.{Comes}
-use Rattle.splice_facts.specs.Exceptions.{IsException, FailuresThere}
+use Rattle.splice_facts.specs.Comes.{Comes, Goes}
+use Rattle.splice_facts.specs.Exceptions.{IsException, ExceptionIf, FailuresThere}
 use Rattle.splice_facts.specs.Input.{IsFound, is_group, top_of, ReturnsAsNamed}
 use Rattle.splice_facts.specs.Layout.{fetch, IsHere, CanArrive, Onward, never_falls, Depths, HasDepth, Marks, Keeps}
 
@@ -101,6 +101,11 @@ module _ (p : Program) (k : Contracts) (p' : Program) (g : AddedNumbers) (n : �
     pub beside : Beside w statics
     pub comes : Comes p' c from (stands f l extra q b fs' w statics)
 
+  -- the same in at least one step
+  pub record Departs (m : Marks) (c : ℕ) (from : Next) (f : Frame) (fs : List Frame) (l : LocalState) (q : ℕ) (b : Continuation) (fs' : List Frame) (w : World) : Type 0 where
+    pub arrives : Arrives m c from f fs l q b fs' w
+    pub moves : 1 ≤ (arrives.comes).steps
+
   -- where the group has a piece that takes part, its beginning, one deeper; else what is said of the group's end
   abbrev pub OpensAt : Marks → Plan → Group → ℕ → Next → Frame → List Frame → LocalState → Continuation → List Frame → World → Option (ℕ × Piece) → Bool → Type 0
   OpensAt m plan gr c from f fs l b fs' w (Some x) true = Arrives m c from f fs (with_stack l []) (m.places (InGroup gr x.0 x.1.from)) b fs' (state.raised w)
@@ -155,20 +160,22 @@ module _ (p : Program) (k : Contracts) (p' : Program) (g : AddedNumbers) (n : �
     pub throws : (l : LocalState) (ex : List Cell) (b : Continuation) (fs' : List Frame) (w : World)
         → Comes p' (cost k p) (push_below p' no_contracts (Some (Obj y)) (twin f l ex q [] b ∷ fs') w) (unwind p' no_contracts false (twin f (pushed (Obj y) l) ex thrower [] b ∷ fs') w y)
 
-  -- A check: a false condition is reported; then the run goes on at a place, throws as at the instruction's own place, makes the exception of Requires<E>, or is stuck.
+  -- A check: a false condition is reported; then the run goes on at a place, throws as at the instruction's own place, makes the exception of Requires<E> at another place of it, or is stuck.
   pub record Checked (m : Marks) (f : Frame) (fs fs' : List Frame) (w : World) (ex : List Cell) (ss : List Statics) (b : Continuation) (hs : List Handling) (x : Failure) (holds : Bool) (rest : List Value) (on : ℕ) : Type 0 where
     pub after : List Cell
     pub keeps : Keeps m (here_of f fs) f.thrown f.local after
     pub seam : ℕ
     pub belongs : IsTrue (m.belongs f.at seam)
-    -- behind the newobj of Requires<E>
-    pub made : x.kind ≡ kind.RequiresOf → (y : ℕ) → Throws_next m f seam y
-    pub comes : Comes p' (failure_cost k p) (from_here m f ex b fs' w ss hs)
+    -- the newobj of Requires<E>, and what comes behind it
+    pub maker : ℕ
+    pub maker_belongs : IsTrue (m.belongs f.at maker)
+    pub made : x.kind ≡ kind.RequiresOf → (y : ℕ) → Throws_next m f maker y
+    pub goes : Goes p' (failure_cost k p) (from_here m f ex b fs' w ss hs)
         (checking p' g k.settings.throwing x
         (record {
           passes = λ v. Rattle.cil_semantics.specs.Unwind.goes_at p' (twin f (with_stack f.local rest) after on hs b) (Rest on) (grow after (with_stack f.local rest)) hs fs' v;
           throws = λ v y. unwind p' no_contracts false (twin f (with_stack f.local rest) after seam hs b ∷ fs') v y;
-          makes = λ v ty c values. Rattle.cil_semantics.specs.Calls.make p' no_contracts (Rattle.cil_semantics.specs.Calls.pushes_new p' no_contracts) ty c values (twin f (with_stack f.local rest) after seam hs b ∷ fs') v;
+          makes = λ v ty c values. Rattle.cil_semantics.specs.Calls.make p' no_contracts (Rattle.cil_semantics.specs.Calls.pushes_new p' no_contracts) ty c values (twin f (with_stack f.local rest) after maker hs b ∷ fs') v;
           stops = λ v. stuck v;
         })
         holds fs' (beside ss w))
@@ -231,13 +238,13 @@ module _ (p : Program) (k : Contracts) (p' : Program) (g : AddedNumbers) (n : �
   abbrev pub Stays : Plan → Frame → Option Value → Type 0
   Stays plan f v = (has_exit plan ≡ true) × (returned p f (top_of v) ≡ Some v)
 
-  -- handlers of the old table, which hold the place where the frame stands: a frame keeps no others
+  -- handlers of the old table, which hold the place where the frame stands: a frame keeps no others, and in a group none
   abbrev pub AreLow : ℕ → List Handling → Type 0
   AreLow me [] = Unit {0}
   AreLow me (h ∷ hs) = (h.handler < length (body_of p me).regions) × AreLow me hs
 
   abbrev pub Current : ℕ → ProgramPoint → List Handling → Type 0
-  Current me at hs = AreLow me hs × (filter (in_handler (body_of p me).regions (place_in at)) hs ≡ hs)
+  Current me at hs = AreLow me hs × (handled_at (body_of p me).regions at hs ≡ hs)
 
   -- what a group needs when it is over
   abbrev pub StaysIn : Plan → Group → Frame → Option Value → Type 0
@@ -255,10 +262,10 @@ module _ (p : Program) (k : Contracts) (p' : Program) (g : AddedNumbers) (n : �
     -- a group begins one deeper, or is passed over: the entry group with what the lead-in left on the stack, each other with nothing
     pub enters : (f : Frame) (fs fs' : List Frame) (w : World) (ex : List Cell) (ss : List Statics) (b : Continuation) → f.method ≡ me → f.thrown ≡ None → Paired m f fs fs' w ex ss
         → EntersAt m plan (cost k p) (stands f f.local ex (m.door group.Entry) b fs' w ss) f fs f.local b fs' w (next_piece p plan group.Entry 0 f fs w) (runs_at plan group.Entry w.depth)
-    pub opens : (gr : Group) (f : Frame) (fs fs' : List Frame) (w : World) (ex : List Cell) (ss : List Statics) (b : Continuation) → gr ≢ group.Entry → f.local.stack ≡ [] → f.method ≡ me → FitsGroup gr f.thrown → Paired m f fs fs' w ex ss
+    pub opens : (gr : Group) (f : Frame) (fs fs' : List Frame) (w : World) (ex : List Cell) (ss : List Statics) (b : Continuation) → gr ≢ group.Entry → f.local.stack ≡ [] → f.method ≡ me → FitsGroup gr f.thrown → ExceptionIf p w f.thrown → Paired m f fs fs' w ex ss
         → OpensAt m plan gr (opening_cost k p gr) (stands f f.local ex (m.door gr) b fs' w ss) f fs f.local b fs' w (next_piece p plan gr 0 f fs w) (runs_at plan gr w.depth)
     -- behind a piece the next one begins, or the group is over
-    pub continues : (gr : Group) (j : ℕ) (x : Piece) (f : Frame) (fs fs' : List Frame) (w : World) (ex : List Cell) (ss : List Statics) (b : Continuation) → piece_at (Some plan) gr j ≡ Some x → f.method ≡ me → FitsGroup gr f.thrown → 0 < w.depth → Paired m f fs fs' w ex ss
+    pub continues : (gr : Group) (j : ℕ) (x : Piece) (f : Frame) (fs fs' : List Frame) (w : World) (ex : List Cell) (ss : List Statics) (b : Continuation) → piece_at (Some plan) gr j ≡ Some x → f.method ≡ me → FitsGroup gr f.thrown → ExceptionIf p w f.thrown → 0 < w.depth → Paired m f fs fs' w ex ss
         → ContinuesAt m plan gr (cost k p) (stands f f.local ex (m.behind gr j) b fs' w ss) f fs f.local b fs' w (next_piece p plan gr (j + 1) f fs w)
     -- an exception in a piece leaves the frame with the depth as before, but one in a capture is dropped
     pub breaks : (gr : Group) (j q q' : ℕ) (f : Frame) (fs fs' : List Frame) (w : World) (ex : List Cell) (ss : List Statics) (b : Continuation) (x : ℕ) → f.at ≡ InGroup gr j q → IsHere (Some plan) f.at → IsTrue (m.belongs f.at q') → f.method ≡ me → FitsGroup gr f.thrown → 0 < w.depth → Paired m f fs fs' w ex ss → drops (piece_at (Some plan) gr j) ≡ false
@@ -272,7 +279,7 @@ module _ (p : Program) (k : Contracts) (p' : Program) (g : AddedNumbers) (n : �
         → Comes p' (cost k p) (stands f f.local ex (m.out group.Throw) b fs' w ss) (leaves_with f b fs' w ss x)
     -- ret in the rest
     pub lifts : (f : Frame) (fs fs' : List Frame) (w : World) (ex : List Cell) (ss : List Statics) (b : Continuation) (hs : List Handling) (q : ℕ) (i : Instr) (v : Option Value) → f.method ≡ me → ReturnsAsNamed p f → has_exit plan ≡ true → f.at ≡ Rest q → IsHere (Some plan) f.at → fetch p k g (Some plan) me f.at ≡ Some i → class_of i.op ≡ class.Return → Paired m f fs fs' w ex ss → Current me f.at hs
-        → returned p f f.local.stack ≡ Some v → length f.local.stack ≡ length (top_of v) → Arrives m (cost k p) (from_here m f ex b fs' w ss hs) f fs (with_stack (record f.local { result = v }) []) (m.door group.Exit) b fs' w
+        → returned p f f.local.stack ≡ Some v → length f.local.stack ≡ length (top_of v) → Departs m (cost k p) (from_here m f ex b fs' w ss hs) f fs (with_stack (record f.local { result = v }) []) (m.door group.Exit) b fs' w
     pub lifts_stuck : (f : Frame) (fs fs' : List Frame) (w : World) (ex : List Cell) (ss : List Statics) (b : Continuation) (hs : List Handling) (q : ℕ) (i : Instr) → f.method ≡ me → ReturnsAsNamed p f → has_exit plan ≡ true → f.at ≡ Rest q → IsHere (Some plan) f.at → fetch p k g (Some plan) me f.at ≡ Some i → class_of i.op ≡ class.Return → Paired m f fs fs' w ex ss → Current me f.at hs
         → returned p f f.local.stack ≡ None → Comes p' (cost k p) (from_here m f ex b fs' w ss hs) (stuck (beside ss w))
     -- the call that ends a clause
@@ -286,18 +293,18 @@ module _ (p : Program) (k : Contracts) (p' : Program) (g : AddedNumbers) (n : �
     pub asserts_stuck : (f : Frame) (fs fs' : List Frame) (w : World) (ex : List Cell) (ss : List Statics) (b : Continuation) (hs : List Handling) (i : Instr) (kd : ClauseKind) (label : Name) (home : ℕ) → f.method ≡ me → IsHere (Some plan) f.at → IsInline plan me f fs f.at i kd home label → rank plan.settings.level ≡ 4 → Paired m f fs fs' w ex ss → Current me f.at hs
         → condition_in (has_message p i) f.local.stack ≡ None → Comes p' (cost k p) (from_here m f ex b fs' w ss hs) (stuck (beside ss w))
     pub drops_arguments : (f : Frame) (fs fs' : List Frame) (w : World) (ex : List Cell) (ss : List Statics) (b : Continuation) (hs : List Handling) (i : Instr) (kd : ClauseKind) (label : Name) (home : ℕ) → f.method ≡ me → IsHere (Some plan) f.at → IsInline plan me f fs f.at i kd home label → (rank plan.settings.level == 4) ≡ false → Paired m f fs fs' w ex ss → Current me f.at hs
-        → Comes p' (cost k p) (from_here m f ex b fs' w ss hs)
+        → Goes p' (cost k p) (from_here m f ex b fs' w ss hs)
         (if_there (dropped (has_message p i) f.local.stack) (beside ss w) (λ rest. Rattle.cil_semantics.specs.Unwind.goes_at p' (twin f (with_stack f.local rest) ex (m.places (next_place f.at)) hs b) (Rest (m.places (next_place f.at))) (grow ex (with_stack f.local rest)) hs fs' (beside ss w)))
     -- old values: taken in the entry group, and pushed in clauses
     pub takes : (gr : Group) (j q : ℕ) (x : Piece) (i : Instr) (c : ℕ) (f : Frame) (fs fs' : List Frame) (w : World) (ex : List Cell) (ss : List Statics) (b : Continuation) → f.method ≡ me → f.at ≡ InGroup gr j q → IsHere (Some plan) f.at → piece_at (Some plan) gr j ≡ Some x → x.captures ≡ Some c → slice_get x.clause.instrs q ≡ Some i → contract_call p i ≡ TakesOld → Paired m f fs fs' w ex ss
-        → Comes p' (cost k p) (from_here m f ex b fs' w ss []) (kept_in f.local.stack c f ex b fs' w ss (m.behind gr j))
+        → Goes p' (cost k p) (from_here m f ex b fs' w ss []) (kept_in f.local.stack c f ex b fs' w ss (m.behind gr j))
     pub recalls : (gr : Group) (j q : ℕ) (x : Piece) (o : ℕ × Old) (c : Cell) (f : Frame) (fs fs' : List Frame) (w : World) (ex : List Cell) (ss : List Statics) (b : Continuation) → f.method ≡ me → f.at ≡ InGroup gr j q → IsHere (Some plan) f.at → piece_at (Some plan) gr j ≡ Some x → recalled x q ≡ Some o → slice_get f.local.captured (x.first_captured + o.0) ≡ Some c → Paired m f fs fs' w ex ss
-        → CanArrive (Some plan) (moved_to (o.1.to + 1) f.at) × Comes p' (cost k p) (from_here m f ex b fs' w ss []) (stands f (pushed c.value f.local) ex (m.places (moved_to (o.1.to + 1) f.at)) b fs' w ss)
+        → CanArrive (Some plan) (moved_to (o.1.to + 1) f.at) × Goes p' (cost k p) (from_here m f ex b fs' w ss []) (stands f (pushed c.value f.local) ex (m.places (moved_to (o.1.to + 1) f.at)) b fs' w ss)
     pub results : (gr : Group) (j q : ℕ) (x : Piece) (i : Instr) (v : Value) (f : Frame) (fs fs' : List Frame) (w : World) (ex : List Cell) (ss : List Statics) (b : Continuation) → f.method ≡ me → f.at ≡ InGroup gr j q → IsHere (Some plan) f.at → piece_at (Some plan) gr j ≡ Some x → slice_get x.clause.instrs q ≡ Some i → contract_call p i ≡ GivesResult → f.local.result ≡ Some v → Paired m f fs fs' w ex ss
-        → Comes p' (cost k p) (from_here m f ex b fs' w ss []) (stands f (pushed v f.local) ex (m.places (next_place f.at)) b fs' w ss)
+        → Goes p' (cost k p) (from_here m f ex b fs' w ss []) (stands f (pushed v f.local) ex (m.places (next_place f.at)) b fs' w ss)
     -- ValueAtReturn loads through its argument
     pub loads : (gr : Group) (j q : ℕ) (x : Piece) (i : Instr) (f : Frame) (fs fs' : List Frame) (w : World) (ex : List Cell) (ss : List Statics) (b : Continuation) → f.method ≡ me → f.at ≡ InGroup gr j q → IsHere (Some plan) f.at → piece_at (Some plan) gr j ≡ Some x → recalled x q ≡ None → slice_get x.clause.instrs q ≡ Some i → contract_call p i ≡ ReadsArgument → Paired m f fs fs' w ex ss
-        → Comes p' (cost k p) (from_here m f ex b fs' w ss []) (loaded_at m (meaning_here p (here_of f fs) i) f.local.stack f ex b fs' w ss)
+        → Goes p' (cost k p) (from_here m f ex b fs' w ss []) (loaded_at m (meaning_here p (here_of f fs) i) f.local.stack f ex b fs' w ss)
 
   abbrev pub GroupsIf : ℕ → Option Plan → Marks → Type 0
   GroupsIf me None m = Unit {0}
@@ -323,6 +330,6 @@ module _ (p : Program) (k : Contracts) (p' : Program) (g : AddedNumbers) (n : �
     -- in the lead-in, and where no clause on exceptions is kept, nothing else is found
     pub unguarded : (at : ProgramPoint) (q skip q' : ℕ) (fits : Token → Bool) → IsHere plan at → is_group at ≡ false → is_guarded plan at ≡ false → IsHere plan (moved_to q at) → IsTrue (m.belongs (moved_to q at) q') → search_from fits skip 0 q (body_of p me).regions ≡ NoHandler → search_from fits skip 0 q' (body_of p' me).regions ≡ NoHandler
     -- the wrapper: an exception of the rest that no old region takes is kept, and the group of EnsuresOnThrow begins
-    pub wrapper : (f : Frame) (fs fs' : List Frame) (w : World) (ex : List Cell) (ss : List Statics) (b : Continuation) (q skip q' q0 x : ℕ) (hs hs' : List Handling) → f.method ≡ me → Paired m f fs fs' w ex ss → AreLow me hs' → IsHere plan f.at → is_guarded plan f.at ≡ true → IsHere plan (moved_to q f.at) → IsTrue (m.belongs (moved_to q f.at) q') → searched p f w x skip q f.at ≡ NoHandler → IsException p w x
+    pub wrapper : (f : Frame) (fs fs' : List Frame) (w : World) (ex : List Cell) (ss : List Statics) (b : Continuation) (q skip q' q0 x : ℕ) (hs hs' : List Handling) → f.method ≡ me → Paired m f fs fs' w ex ss → AreLow me hs' → IsHere plan f.at → is_guarded plan f.at ≡ true → IsHere plan (moved_to q f.at) → IsTrue (m.belongs (moved_to q f.at) q') → skip ≤ length (body_of p me).regions → searched p f w x skip q f.at ≡ NoHandler → IsException p w x
         → Arrives m (wrapper_cost k p) (throws_in p' no_contracts (twin f f.local ex q0 hs b) hs' skip q' fs' (beside ss w) x (λ s v y. unwind p' no_contracts s fs' v y)) (record f { thrown = Some x }) fs (with_stack f.local []) (m.door group.Throw) b fs' w
     pub groups : GroupsIf me plan m

@@ -34,7 +34,7 @@ use Rattle.cil_semantics.specs.Unwind.{body_of, here_of, goes_at, unwind}
 use Rattle.cil_semantics.specs.Frames.{stuck}
 use Rattle.cil_semantics.specs.Checks.{AddedNumbers, kind_number, Failure, Condition, condition_in, condition_from, bool_in, label_text, number_value}
 use Rattle.machine_laws.specs.Same.{most_clauses}
-use Rattle.splice_facts.specs.Comes.{Comes}
+use Rattle.splice_facts.specs.Comes.{Comes, Goes}
 use Rattle.splice_facts.specs.Grown.{grow, beside}
 use Rattle.splice_facts.specs.Layout.{Depths, Marks, Keeps}
 use Rattle.cil_semantics.specs.Checks.{Sequel, failing}
@@ -44,9 +44,9 @@ use Rattle.splice_laws.specs.Straight.{ldc, ldloc, stloc, ldnull, ldstr, brtrue,
 use Rattle.splice_laws.specs.HelperRuns.{HelpersRun}
 use Rattle.splice_laws.specs.EntryCode.{Reporting, reports, check_code, bool_ty}
 use Rattle.splice_laws.specs.Fails.{NotMade, FitsFail, fail_cost}
-use Rattle.splice_facts.proofs.ComesLaws.{comes_at_once, comes_on, comes_within}
+use Rattle.splice_facts.proofs.ComesLaws.{comes_at_once, comes_within, moves_behind, moves_within}
 use Rattle.splice_facts.proofs.StoreLaws.{IsPlain, stored_plain}
-use Rattle.splice_laws.proofs.StraightLaws.{one_step, goes_one, jumps_behind, does_ldc, does_ldnull, does_ldloc, does_stloc, does_ldstr, tests_brtrue}
+use Rattle.splice_laws.proofs.StraightLaws.{one_step, goes_one, jumps_behind, does_ldc, does_ldnull, does_ldloc, does_stloc, does_ldstr, tests_brtrue, first_step}
 use Rattle.splice_laws.proofs.SeamLocalLaws.{extra_at, extra_set, get_set_same, get_set_other, CellOf, cell_of, keeps_set}
 
 -- ---- what a condition and a message are
@@ -130,10 +130,10 @@ module _ (p : Program) (k : Contracts) (p' : Program) (g : AddedNumbers) (n : �
         → StandAt (body_of p' me).instrs S (reports r.assembly e.tools (kind_number X.kind) user label on) → S + 7 ≡ on → ((at : ℕ) → S < at → at < on → Stay p' (base f b) at hs) → stored (Truncated B8 false) v ≡ Some x
         → ((here : Here) (s : List Value) → Does p' here user (with_stack (grow (slice_set ex e.condition_at (typed_cell p' bool_ty x)) f.local) s) (with_stack (grow (slice_set ex e.condition_at (typed_cell p' bool_ty x)) f.local) (uv ∷ s)))
         → meaning_of p' r.assembly label ≡ Some (OfText (text_units X.label)) → NotMade X.kind → X.user ≡ uv → stored Reference uv ≡ Some uv → FitsFail g depths.owner w
-        → Comes p' (4 + (2 + fail_cost)) (at_place (base f b) (with_stack (grow ex f.local) (v ∷ rest)) S hs fs' w)
+        → Goes p' (4 + (2 + fail_cost)) (at_place (base f b) (with_stack (grow ex f.local) (v ∷ rest)) S hs fs' w)
         (checking p' g k.settings.throwing X (then_of f b (with_stack f.local rest) (slice_set ex e.condition_at (typed_cell p' bool_ty x)) (S + 6) on hs fs' makes) (bool_in (out-Value x)) fs' w)
     reported f hs fs' w b ex S user uv label on v x rest X makes a h1 h2 o stand len st s does lab kd us ref fit =
-        one_step p' F (with_stack (grow ex f.local) (v ∷ rest)) S hs fs' w (3 + (2 + fail_cost)) _ _
+        first_step p' F (with_stack (grow ex f.local) (v ∷ rest)) S hs fs' w (3 + (2 + fail_cost)) _ _
         (goes_one p' F (with_stack (grow ex f.local) (v ∷ rest)) (with_stack L rest) S hs fs' w (stloc e.tools.condition) (at_me F S _ a stand.0) (seam_store here f.local ex e.tools.condition e.condition_at bool_ty (Truncated B8 false) v x rest h1 h2 e.condition_is o (bool_holds p') tt s) (st (S + 1) (omega arith) (omega (arith, len))))
         (one_step p' F (with_stack L rest) (S + 1) hs fs' w (2 + (2 + fail_cost)) _ _
         (goes_one p' F (with_stack L rest) (with_stack L (x ∷ rest)) (S + 1) hs fs' w (ldloc e.tools.condition) (at_me F (S + 1) _ a (stand.1).0) (does_ldloc p' here e.tools.condition (typed_cell p' bool_ty x) (with_stack L rest) (seam_get f.local ex2 e.tools.condition e.condition_at (typed_cell p' bool_ty x) h1 h2 e.condition_is (get_set_same ex e.condition_at o.cell (typed_cell p' bool_ty x) o.there))) (st (S + 1 + 1) (omega arith) (omega (arith, len))))
@@ -236,9 +236,11 @@ module _ (p : Program) (k : Contracts) (p' : Program) (g : AddedNumbers) (n : �
             keeps = k2;
             seam = S1 + 6;
             belongs = belongs (S1 + 6) (omega (arith, after)) (omega (arith, len));
+            maker = S1 + 6;
+            maker_belongs = belongs (S1 + 6) (omega (arith, after)) (omega (arith, len));
             made = λ k1 y. absurd (subst NotMade k1 kept);
-            comes = comes_within p' (n0 + (4 + (2 + fail_cost))) (failure_cost k p) _ _ (omega (arith, many, le))
-                (comes_on p' n0 (4 + (2 + fail_cost)) _ _ _ come
+            goes = moves_within p' (n0 + (4 + (2 + fail_cost))) (failure_cost k p) _ _ (omega (arith, many, le))
+                (moves_behind p' n0 (4 + (2 + fail_cost)) _ _ _ come
                 (reported f hs fs' WW b ex1 S1 user uv label B v x0 rest (X uv) (makes rest ex2 (S1 + 6)) a kp.wide kp.caps (condition_cell ex1 kp) stand len (λ at lo hi. stays at (omega (arith, after, lo)) hi) sx does labelled kept refl ref fit));
           }
 

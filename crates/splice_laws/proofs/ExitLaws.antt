@@ -17,16 +17,16 @@ use Rattle.cil_semantics.specs.declared.state.Statics.{Statics}
 use Rattle.cil_semantics.specs.declared.state.Frame.{Frame}
 use Rattle.cil_semantics.specs.declared.state.Continuation.{Continuation}
 use Rattle.cil_semantics.specs.State.{with_stack, pushed}
-use Rattle.cil_semantics.specs.Unwind.{body_of, here_of, place_in, in_handler, left_from}
+use Rattle.cil_semantics.specs.Unwind.{body_of, here_of, in_handler, left_from, handled_at}
 use Rattle.cil_semantics.specs.Returns.{result_type, returned, return_with, kept_as}
 use Rattle.cil_semantics.specs.Acts.{Stuck, GoOn}
 use Rattle.cil_semantics.specs.Checks.{AddedNumbers}
 use Rattle.splice_facts.specs.Grown.{grow, beside}
 use Rattle.splice_facts.specs.Layout.{Depths, Marks, Keeps, IsHere, fetch}
-use Rattle.splice_facts.specs.Spliced.{Paired, Current, Stays, twin, stands, Arrives, from_here, cost}
+use Rattle.splice_facts.specs.Spliced.{Paired, Current, Stays, twin, stands, from_here, cost, Departs}
 use Rattle.splice_laws.specs.Straight.{ldloc, stloc, br, at_place, frame_at, StandAt, Acts_so}
-use Rattle.splice_facts.proofs.ComesLaws.{comes_at_once, comes_within}
-use Rattle.splice_laws.proofs.StraightLaws.{one_step, steps_by, world_back, goes_one, jumps_one, does_ldloc, does_stloc, jumps_br}
+use Rattle.splice_facts.proofs.ComesLaws.{comes_at_once, comes_within, moves_within}
+use Rattle.splice_laws.proofs.StraightLaws.{one_step, steps_by, world_back, goes_one, jumps_one, does_ldloc, does_stloc, jumps_br, first_step}
 use Rattle.splice_laws.proofs.SeamLocalLaws.{extra_at, extra_set, get_set_same, get_set_other, map_set, CellOf, cell_of}
 use Rattle.splice_facts.proofs.StoreLaws.{some_of}
 use Rattle.cil_model.specs.declared.body.Instr.{Instr}
@@ -39,7 +39,7 @@ use Rattle.cil_semantics.specs.declared.state.ProgramPoint.TheVariants.{Rest}
 use Rattle.cil_semantics.specs.Contracted.{Plan}
 use Rattle.cil_semantics.specs.Frames.{stuck}
 use Rattle.machine_laws.specs.Same.{plain_step}
-use Rattle.splice_facts.specs.Comes.{Comes}
+use Rattle.splice_facts.specs.Comes.{Comes, Goes}
 use Rattle.splice_facts.specs.Input.{top_of, ReturnsAsNamed}
 use Rattle.splice_laws.specs.ExitCode.{goes_to, lifted_code, exit_code, LiftedAt, ExitCode, ExitSeams}
 use Rattle.splice_laws.proofs.LeavingLaws.{leaves_plainly}
@@ -184,9 +184,9 @@ module _ (p : Program) (k : Contracts) (p' : Program) (g : AddedNumbers) (n : �
 
     -- stloc result; then to the exit
     stores : (nv : e.void ≡ false) (q : ℕ) (x y : Value) → StandAt (body_of p' me).instrs q (stloc e.result ∷ goes_to e.wrapped EXIT ∷ []) → left_from 0 0 (q + 1) EXIT (body_of p' me).regions ≡ None → stored_in p (result_type p f) y ≡ Some x
-        → Comes p' 2 (at_place F (with_stack (grow ex f.local) (y ∷ [])) q [] fs' W) (at_place F (grow (stored_at x) (with_stack f.local [])) EXIT [] fs' W)
+        → Goes p' 2 (at_place F (with_stack (grow ex f.local) (y ∷ [])) q [] fs' W) (at_place F (grow (stored_at x) (with_stack f.local [])) EXIT [] fs' W)
     stores nv q x y code none put =
-        one_step p' F (with_stack (grow ex f.local) (y ∷ [])) q [] fs' W 1 _ _
+        first_step p' F (with_stack (grow ex f.local) (y ∷ [])) q [] fs' W 1 _ _
         (goes_one p' F (with_stack (grow ex f.local) (y ∷ [])) (grow (stored_at x) (with_stack f.local [])) q [] fs' W (stloc e.result) (at_me f q _ a code.0)
         (λ v. does_stloc p' (here_of F fs') e.result y [] (cell x) (grow ex f.local) (cell_of_value nv y ∙ ap (option_map (λ z. cell z)) put) v ∙ ap (λ ls. GoOn [] (record (grow ex f.local) { locals = ls; stack = [] })) (after x)) refl)
         (one_step p' F (grow (stored_at x) (with_stack f.local [])) (q + 1) [] fs' W 0 _ _ (goes f b (grow (stored_at x) f.local) (q + 1) fs' W e.wrapped a (code.1).0 none) (comes_at_once p' 0 _ _ refl))
@@ -196,7 +196,7 @@ module _ (p : Program) (k : Contracts) (p' : Program) (g : AddedNumbers) (n : �
       lifted = e.lifted q i (subst (IsHere (Some plan)) at here) (subst (λ z. fetch p k g (Some plan) me z ≡ Some i) at stands_there) is_ret
 
       idle : hs ≡ []
-      idle = none_pending (in_handler (body_of p me).regions (place_in f.at)) hs (λ h. ap (λ z. in_handler (body_of p me).regions (place_in z) h) at ∙ lifted.unhandled h) current.1
+      idle = none_pending (in_handler (body_of p me).regions q) hs (λ h. lifted.unhandled h) (subst (λ z. handled_at (body_of p me).regions z hs ≡ hs) at current.1)
 
       abbrev S : ℕ
       S = m.places (Rest q)
@@ -206,29 +206,22 @@ module _ (p : Program) (k : Contracts) (p' : Program) (g : AddedNumbers) (n : �
           ap (λ z. at_place F (with_stack (grow ex f.local) z) S [] fs' W) (sym es) ∙ ap (λ z. at_place F (grow ex f.local) (m.places z) [] fs' W) (sym at) ∙ ap (λ z. at_place F (grow ex f.local) (m.places f.at) z fs' W) (sym idle)
 
       abbrev Goal : Option Value → Type 0
-      Goal v = Arrives p k p' g n depths m (cost k p) (from_here p k p' g n depths m f ex b fs' w ss hs) f fs (with_stack (record f.local { result = v }) []) EXIT b fs' w
+      Goal v = Departs p k p' g n depths m (cost k p) (from_here p k p' g n depths m f ex b fs' w ss hs) f fs (with_stack (record f.local { result = v }) []) EXIT b fs' w
+
+      departs : (ex1 : List Cell) (v : Option Value) → Keeps m (here_of f fs) f.thrown (with_stack (record f.local { result = v }) []) ex1 → Goes p' (cost k p) (from_here p k p' g n depths m f ex b fs' w ss hs) (at_place F (grow ex1 (with_stack f.local [])) EXIT [] fs' W) → Goal v
+      departs ex1 v kept1 c = record { arrives = record { extra = ex1; keeps = kept1; statics = ss; beside = s.beside; comes = c.comes }; moves = c.moves }
 
       with_value : (nv : e.void ≡ false) (x y : Value) → f.local.stack ≡ y ∷ [] → StandAt (body_of p' me).instrs S (lifted_code false e.wrapped e.result EXIT) → stored_in p (result_type p f) y ≡ Some x → Goal (Some x)
       with_value nv x y es code put =
-          record {
-            extra = stored_at x;
-            keeps = kept nv x;
-            statics = ss;
-            beside = s.beside;
-            comes = comes_within p' 2 (cost k p) _ _ (omega arith) (subst (λ z. Comes p' 2 z (at_place F (grow (stored_at x) (with_stack f.local [])) EXIT [] fs' W)) (from_stack (y ∷ []) es) (stores nv S x y code (lifted.passes (S + 1) (omega arith) (omega arith)) put));
-          }
+          departs (stored_at x) (Some x) (kept nv x)
+          (moves_within p' 2 (cost k p) _ _ (omega arith) (subst (λ z. Goes p' 2 z (at_place F (grow (stored_at x) (with_stack f.local [])) EXIT [] fs' W)) (from_stack (y ∷ []) es) (stores nv S x y code (lifted.passes (S + 1) (omega arith) (omega arith)) put)))
 
       without : f.local.stack ≡ [] → StandAt (body_of p' me).instrs S (lifted_code true e.wrapped e.result EXIT) → Goal None
       without es code =
-          record {
-            extra = ex;
-            keeps = record { wide = (s.keeps).wide; caps = (s.keeps).caps; typed = (s.keeps).typed; result = λ v h. absurd (cc h); thrown = (s.keeps).thrown };
-            statics = ss;
-            beside = s.beside;
-            comes = comes_within p' 1 (cost k p) _ _ (omega arith)
-                (subst (λ z. Comes p' 1 z (at_place F (grow ex (with_stack f.local [])) EXIT [] fs' W)) (from_stack [] es)
-                (one_step p' F (with_stack (grow ex f.local) []) S [] fs' W 0 _ _ (goes f b (grow ex f.local) S fs' W e.wrapped a code.0 (lifted.passes S (omega arith) (omega arith))) (comes_at_once p' 0 _ _ refl)));
-          }
+          departs ex None (record { wide = (s.keeps).wide; caps = (s.keeps).caps; typed = (s.keeps).typed; result = λ v h. absurd (cc h); thrown = (s.keeps).thrown })
+          (moves_within p' 1 (cost k p) _ _ (omega arith)
+          (subst (λ z. Goes p' 1 z (at_place F (grow ex (with_stack f.local [])) EXIT [] fs' W)) (from_stack [] es)
+          (first_step p' F (with_stack (grow ex f.local) []) S [] fs' W 0 _ _ (goes f b (grow ex f.local) S fs' W e.wrapped a code.0 (lifted.passes S (omega arith) (omega arith))) (comes_at_once p' 0 _ _ refl))))
 
       as_void : (t : Bool) → e.void ≡ t → is_void (storage p (result_type p f)) ≡ t
       as_void t h = kind_of ∙ h

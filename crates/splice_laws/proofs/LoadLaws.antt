@@ -35,14 +35,14 @@ use Rattle.cil_semantics.specs.Calls.{pointed}
 use Rattle.cil_semantics.specs.ContractCalls.{contract_call}
 use Rattle.cil_semantics.specs.declared.contract_call.ContractCall.TheVariants.{ReadsArgument}
 use Rattle.cil_semantics.specs.Checks.{AddedNumbers}
-use Rattle.splice_facts.specs.Comes.{Comes}
+use Rattle.splice_facts.specs.Comes.{Goes}
 use Rattle.splice_facts.specs.Grown.{grow, beside}
 use Rattle.splice_facts.specs.Layout.{Depths, Marks, IsHere}
 use Rattle.splice_facts.specs.Spliced.{Paired, twin, stands, from_here, loaded_at, cost}
 use Rattle.splice_laws.specs.Straight.{ldobj, frame_at, Acts_so}
 use Rattle.splice_laws.specs.LoadCode.{type_argument, LoadAt, LoadCode}
-use Rattle.splice_facts.proofs.ComesLaws.{comes_at_once, comes_within}
-use Rattle.splice_laws.proofs.StraightLaws.{one_step, steps_by, arrives_at, world_back, done}
+use Rattle.splice_facts.proofs.ComesLaws.{comes_at_once, moves_within}
+use Rattle.splice_laws.proofs.StraightLaws.{first_step, steps_by, arrives_at, world_back, done}
 
 -- nothing reads what was recorded
 reads_unrecorded : (p : Program) (fs : List Frame) (w : World) (q : Pointer) → read p fs (unrecorded w) q ≡ read p fs w q
@@ -108,10 +108,10 @@ module _ (p : Program) (k : Contracts) (p' : Program) (g : AddedNumbers) (n : �
 
   -- one step
   pub loads_argument : LoadCode p p' me plan m → (gr : Group) (j q : ℕ) (x : Piece) (i : Instr) (f : Frame) (fs fs' : List Frame) (w : World) (ex : List Cell) (ss : List Statics) (b : Continuation) → f.method ≡ me → f.at ≡ InGroup gr j q → IsHere (Some plan) f.at → piece_at (Some plan) gr j ≡ Some x → slice_get x.clause.instrs q ≡ Some i → contract_call p i ≡ ReadsArgument → Paired p k p' g n depths m f fs fs' w ex ss
-      → Comes p' (cost k p) (from_here p k p' g n depths m f ex b fs' w ss []) (loaded_at p k p' g n depths m (meaning_here p (here_of f fs) i) f.local.stack f ex b fs' w ss)
+      → Goes p' (cost k p) (from_here p k p' g n depths m f ex b fs' w ss []) (loaded_at p k p' g n depths m (meaning_here p (here_of f fs) i) f.local.stack f ex b fs' w ss)
   loads_argument code gr j q x i f fs fs' w ex ss b a at here there_is instr call s =
-      comes_within p' 1 (cost k p) _ _ (omega arith)
-      (one_step p' here_twin (grow ex f.local) (m.places f.at) [] fs' world 0 _ _
+      moves_within p' 1 (cost k p) _ _ (omega arith)
+      (first_step p' here_twin (grow ex f.local) (m.places f.at) [] fs' world 0 _ _
       (steps_by p' here_twin (grow ex f.local) (m.places f.at) [] fs' world (ldobj z.assembly z.token) (λ v. wanted p' (here_of here_twin fs') (grow ex f.local) (type_argument (meaning_here p (here_of f fs) i)))
       (ap (λ y. slice_get (body_of p' y).instrs (m.places f.at)) a ∙ ap (λ y. slice_get (body_of p' me).instrs (m.places y)) at ∙ z.code)
       (acts_ldobj p' (here_of here_twin fs') z.assembly z.token (type_argument (meaning_here p (here_of f fs) i)) (grow ex f.local) meant)

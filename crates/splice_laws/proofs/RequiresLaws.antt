@@ -124,8 +124,8 @@ module _ (p : Program) (k : Contracts) (p' : Program) (g : AddedNumbers) (n : �
           then_invariants = given.then_invariants;
           bare_doors = given.bare_doors;
           enters = λ f fs fs' w ex ss b a none s. as_entry f fs fs' w ex ss b (next_piece p plan group.Entry 0 f fs w) (runs_at plan group.Entry w.depth) (at_entry.begins f fs fs' w ex ss b a none s);
-          opens = λ gr f fs fs' w ex ss b d empty a fit s. opens_none gr f fs fs' w ex ss b d empty s;
-          continues = λ gr j x f fs fs' w ex ss b there a fit some s.
+          opens = λ gr f fs fs' w ex ss b d empty a fit ok s. opens_none gr f fs fs' w ex ss b d empty s;
+          continues = λ gr j x f fs fs' w ex ss b there a fit ok some s.
               by_group (λ gr1. piece_at (Some plan) gr1 j ≡ Some x → FitsGroup p k p' g n depths gr1 f.thrown → Rattle.splice_facts.specs.Spliced.ContinuesAt p k p' g n depths m plan gr1 (cost k p) (stands p k p' g n depths f f.local ex (m.behind gr1 j) b fs' w ss) f fs f.local b fs' w (next_piece p plan gr1 (j + 1) f fs w)) gr
               (λ there1 fit1. at_entry.continues j x f fs fs' w ex ss b there1 a (no_exception f.thrown fit1) some s)
               (λ d there1 fit1. absurd (no_piece gr j x d there1)) there fit;

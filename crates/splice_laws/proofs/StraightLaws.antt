@@ -28,9 +28,9 @@ use Rattle.cil_semantics.specs.Unwind.{body_of, here_of, arrive_in, plan_at, goe
 use Rattle.cil_semantics.specs.Frames.{if_there}
 use Rattle.cil_semantics.specs.Machine.{step, step_at, perform, run_plain, unused_numbers}
 use Rattle.machine_laws.specs.Same.{plain_step}
-use Rattle.splice_facts.specs.Comes.{Comes}
+use Rattle.splice_facts.specs.Comes.{Comes, Goes}
 use Rattle.splice_laws.specs.Straight.{ldc, ldloc, stloc, ldarg, ldnull, dup, pop, add, sub, ret, throw, endfinally, br, brfalse, brtrue, bgt, leave, call, ldstr, StandAt, Stay, frame_at, at_place, Acts_so, Does, DoAll}
-use Rattle.splice_facts.proofs.ComesLaws.{no_plan, arrives_plain, comes_one, comes_at_once}
+use Rattle.splice_facts.proofs.ComesLaws.{no_plan, arrives_plain, comes_one, comes_at_once, moves_one}
 
 -- ---- what each instruction does
 
@@ -168,6 +168,9 @@ module _ (p : Program) where
 
   pub one_step : (f : Frame) (l : LocalState) (q : ℕ) (hs : List Handling) (fs : List Frame) (w : World) (n : ℕ) (x y : Next) → plain_step p (record { frames = frame_at f l q hs ∷ fs; world = w }) ≡ x → Comes p n x y → Comes p (suc n) (at_place f l q hs fs w) y
   one_step f l q hs fs w n x y e c = comes_one p n (record { frames = frame_at f l q hs ∷ fs; world = w }) y (subst (λ z. Comes p n z y) (sym e) c)
+
+  pub first_step : (f : Frame) (l : LocalState) (q : ℕ) (hs : List Handling) (fs : List Frame) (w : World) (n : ℕ) (x y : Next) → plain_step p (record { frames = frame_at f l q hs ∷ fs; world = w }) ≡ x → Comes p n x y → Goes p (suc n) (at_place f l q hs fs w) y
+  first_step f l q hs fs w n x y e c = moves_one p n (record { frames = frame_at f l q hs ∷ fs; world = w }) y (subst (λ z. Comes p n z y) (sym e) c)
 
   pub straight : (is : List Instr) (f : Frame) (l m : LocalState) (q : ℕ) (fs : List Frame) (w : World) → StandAt (body_of p f.method).instrs q is → DoAll p (here_of f fs) is l m → Comes p (length is) (at_place f l q [] fs w) (at_place f m (q + length is) [] fs w)
   straight [] f l m q fs w there all = comes_at_once p 0 (at_place f l q [] fs w) (at_place f m (q + 0) [] fs w) (ap (λ z. at_place f z q [] fs w) all ∙ ap (λ z. at_place f m z [] fs w) (omega arith))

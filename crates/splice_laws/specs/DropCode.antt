@@ -19,12 +19,12 @@ use Rattle.cil_semantics.specs.Unwind.{body_of, next_place, goes_at}
 use Rattle.cil_semantics.specs.Frames.{if_there}
 use Rattle.cil_semantics.specs.ContractCalls.{has_message}
 use Rattle.cil_semantics.specs.Checks.{AddedNumbers, dropped}
-use Rattle.splice_facts.specs.Comes.{Comes}
+use Rattle.splice_facts.specs.Comes.{Goes}
 use Rattle.splice_facts.specs.Grown.{grow, beside}
 use Rattle.splice_facts.specs.Layout.{Depths, Marks, IsHere}
-use Rattle.splice_facts.specs.Spliced.{Paired, IsInline, twin, from_here, cost}
+use Rattle.splice_facts.specs.Spliced.{Paired, IsInline, twin, from_here, cost, Current}
 use Rattle.splice_laws.specs.Straight.{pop, StandAt}
-use Rattle.splice_laws.specs.PendingHandlers.{Pending, HoldsAs}
+use Rattle.splice_laws.specs.PendingHandlers.{HoldsAs}
 
 -- the condition, and above it the message
 abbrev pub drop_code : (message : Bool) → List Instr
@@ -45,6 +45,6 @@ module _ (p : Program) (k : Contracts) (p' : Program) (g : AddedNumbers) (n : �
   -- what is asked of an Assert or Assume that isn't checked
   abbrev pub DropsArguments : Type 0
   DropsArguments =
-      (f : Frame) (fs fs' : List Frame) (w : World) (ex : List Cell) (ss : List Statics) (b : Continuation) (hs : List Handling) (i : Instr) (kd : ClauseKind) (label : Name) (home : ℕ) → f.method ≡ me → IsHere (Some plan) f.at → IsInline p k p' g n depths plan me f fs f.at i kd home label → Paired p k p' g n depths m f fs fs' w ex ss → Pending p k p' g n depths me f.at hs
-      → Comes p' (cost k p) (from_here p k p' g n depths m f ex b fs' w ss hs)
+      (f : Frame) (fs fs' : List Frame) (w : World) (ex : List Cell) (ss : List Statics) (b : Continuation) (hs : List Handling) (i : Instr) (kd : ClauseKind) (label : Name) (home : ℕ) → f.method ≡ me → IsHere (Some plan) f.at → IsInline p k p' g n depths plan me f fs f.at i kd home label → Paired p k p' g n depths m f fs fs' w ex ss → Current p k p' g n depths me f.at hs
+      → Goes p' (cost k p) (from_here p k p' g n depths m f ex b fs' w ss hs)
       (if_there (dropped (has_message p i) f.local.stack) (beside ss w) (λ rest. goes_at p' (twin p k p' g n depths f (with_stack f.local rest) ex (m.places (next_place f.at)) hs b) (Rest (m.places (next_place f.at))) (grow ex (with_stack f.local rest)) hs fs' (beside ss w)))

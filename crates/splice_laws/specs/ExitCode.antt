@@ -30,7 +30,7 @@ use Rattle.splice_facts.specs.Comes.{Comes}
 use Rattle.splice_facts.specs.Grown.{beside}
 use Rattle.splice_facts.specs.Input.{top_of, ReturnsAsNamed}
 use Rattle.splice_facts.specs.Layout.{Depths, Marks, IsHere, fetch}
-use Rattle.splice_facts.specs.Spliced.{Paired, Current, Stays, Arrives, stands, from_here, cost}
+use Rattle.splice_facts.specs.Spliced.{Paired, Current, Stays, Departs, stands, from_here, cost}
 use Rattle.splice_laws.specs.Straight.{ldloc, stloc, ret, br, leave, StandAt}
 
 -- to the exit: within a wrapper by `leave`
@@ -75,6 +75,6 @@ module _ (p : Program) (k : Contracts) (p' : Program) (g : AddedNumbers) (n : �
     pub returns : (f : Frame) (fs fs' : List Frame) (w : World) (ex : List Cell) (ss : List Statics) (b : Continuation) → f.method ≡ me → ReturnsAsNamed p f → Stays p k p' g n depths plan f f.local.result → Paired p k p' g n depths m f fs fs' w ex ss
         → Comes p' (cost k p) (stands p k p' g n depths f f.local ex (m.out group.Invariant) b fs' w ss) (return_with p' no_contracts b f.local.args f.local.result fs' (beside ss w))
     pub lifts : (f : Frame) (fs fs' : List Frame) (w : World) (ex : List Cell) (ss : List Statics) (b : Continuation) (hs : List Handling) (q : ℕ) (i : Instr) (v : Option Value) → f.method ≡ me → ReturnsAsNamed p f → f.at ≡ Rest q → IsHere (Some plan) f.at → fetch p k g (Some plan) me f.at ≡ Some i → class_of i.op ≡ class.Return → Paired p k p' g n depths m f fs fs' w ex ss → Current p k p' g n depths me f.at hs
-        → returned p f f.local.stack ≡ Some v → length f.local.stack ≡ length (top_of v) → Arrives p k p' g n depths m (cost k p) (from_here p k p' g n depths m f ex b fs' w ss hs) f fs (with_stack (record f.local { result = v }) []) (m.door group.Exit) b fs' w
+        → returned p f f.local.stack ≡ Some v → length f.local.stack ≡ length (top_of v) → Departs p k p' g n depths m (cost k p) (from_here p k p' g n depths m f ex b fs' w ss hs) f fs (with_stack (record f.local { result = v }) []) (m.door group.Exit) b fs' w
     pub lifts_stuck : (f : Frame) (fs fs' : List Frame) (w : World) (ex : List Cell) (ss : List Statics) (b : Continuation) (hs : List Handling) (q : ℕ) (i : Instr) → f.method ≡ me → ReturnsAsNamed p f → f.at ≡ Rest q → IsHere (Some plan) f.at → fetch p k g (Some plan) me f.at ≡ Some i → class_of i.op ≡ class.Return → Paired p k p' g n depths m f fs fs' w ex ss → Current p k p' g n depths me f.at hs
         → returned p f f.local.stack ≡ None → Comes p' (cost k p) (from_here p k p' g n depths m f ex b fs' w ss hs) (stuck (beside ss w))
