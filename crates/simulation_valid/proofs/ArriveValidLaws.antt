@@ -20,7 +20,7 @@ use Rattle.cil_semantics.specs.Unwind.{begin_entry, begin_first, begin_group, be
 use Rattle.cil_semantics.specs.Checks.{AddedNumbers}
 use Rattle.splice_facts.specs.Related.{Rewritten, count_groups}
 use Rattle.simulation.proofs.ArriveLaws.{pick_true, pick_false}
-use Rattle.simulation_valid.specs.Keeping.{CountsResult, StaysValid, ValidPlaces, ValidBelow, MayArrive}
+use Rattle.simulation_valid.specs.Keeping.{KeepsReturned, StaysValid, ValidPlaces, ValidBelow, MayArrive}
 use Rattle.simulation_valid.proofs.FrameLaws as Standing
 use Rattle.simulation_valid.proofs.FrameLaws.{stands_valid, same_below}
 
@@ -71,7 +71,7 @@ module _ (p : Program) (k : Contracts) (ms : List MethodDesc) (g : AddedNumbers)
   below_same f h fs w e q b = record { others = b.others; returning = b.returning; heights = same_below p k ms g r f h fs e q b.heights; world = b.world }
 
   -- a piece of a group begins, where the world has its depth
-  pub piece_begins : (h : Frame) (gr : Group) (j q : ℕ) (s : Rattle.cil_semantics.specs.declared.state.Local.Local) (fs : List Frame) (w : World) → ValidPlaces p k ms g r (record h { local = s }) fs → ValidBelow p k ms g r h fs w → Fits gr h.thrown → CountsResult p (record h { local = s }) (InGroup gr j q) → w.depth ≡ 1 + count_groups fs → w.depth ≤ suc k.settings.guard → Stays (goes_at p h (InGroup gr j q) s [] fs w)
+  pub piece_begins : (h : Frame) (gr : Group) (j q : ℕ) (s : Rattle.cil_semantics.specs.declared.state.Local.Local) (fs : List Frame) (w : World) → ValidPlaces p k ms g r (record h { local = s }) fs → ValidBelow p k ms g r h fs w → Fits gr h.thrown → KeepsReturned p (record h { local = s }) (InGroup gr j q) → w.depth ≡ 1 + count_groups fs → w.depth ≤ suc k.settings.guard → Stays (goes_at p h (InGroup gr j q) s [] fs w)
   piece_begins h gr j q s fs w a b fits res count deep =
       stands_valid p k ms g r h (InGroup gr j q) s [] fs w (record { places = a; below = b; fits = fits; counted = res; low = λ e. absurd (cc e); height = λ plan old e no. absurd (cc no); count = count; deep = deep })
 
@@ -85,7 +85,7 @@ module _ (p : Program) (k : Contracts) (ms : List MethodDesc) (g : AddedNumbers)
         fits = fits;
         counted = tt;
         low = λ no. (tt, tt);
-        height = λ plan old q no. ap (λ s. length s + 0) empty ∙ sym (at_rest plan old q);
+        height = λ plan old q no. ap (λ s. Some (length s + 0)) empty ∙ sym (at_rest plan old q);
         count = omega (arith, b.count);
         deep = b.deep;
       })
@@ -93,7 +93,7 @@ module _ (p : Program) (k : Contracts) (ms : List MethodDesc) (g : AddedNumbers)
       same_plan : (plan : Plan) → plan_at k p h.method ≡ Some plan → c ≡ plan
       same_plan plan q = let z : Some c ≡ Some plan = sym e ∙ q in cc z
 
-      at_rest : (plan : Plan) (old : h.method < r.methods) (q : plan_at k p h.method ≡ Some plan) → (r.heights h.method plan old q).height (Rest c.effective.rest_from) ≡ 0
+      at_rest : (plan : Plan) (old : h.method < r.methods) (q : plan_at k p h.method ≡ Some plan) → (r.heights h.method plan old q).height (Rest c.effective.rest_from) ≡ Some 0
       at_rest plan old q = ap (λ (x : Plan). (r.heights h.method plan old q).height (Rest x.effective.rest_from)) (same_plan plan q) ∙ (r.heights h.method plan old q).rest
 
   -- the entry group begins, or is passed over
@@ -107,7 +107,7 @@ module _ (p : Program) (k : Contracts) (ms : List MethodDesc) (g : AddedNumbers)
       by_group None false q = rest_begins c h fs w e b fits empty
 
   -- another group begins, or is passed over
-  pub group_begins : (c : Plan) (gr : Group) (h : Frame) (fs : List Frame) (w : World) (over : Next) → plan_at k p h.method ≡ Some c → MayBegin (record h { local = with_stack h.local [] }) fs w → Fits gr h.thrown → ((j q : ℕ) → CountsResult p (record h { local = with_stack h.local [] }) (InGroup gr j q)) → Stays over → Stays (begin_group p c gr h fs w over)
+  pub group_begins : (c : Plan) (gr : Group) (h : Frame) (fs : List Frame) (w : World) (over : Next) → plan_at k p h.method ≡ Some c → MayBegin (record h { local = with_stack h.local [] }) fs w → Fits gr h.thrown → ((j q : ℕ) → KeepsReturned p (record h { local = with_stack h.local [] }) (InGroup gr j q)) → Stays over → Stays (begin_group p c gr h fs w over)
   group_begins c gr h fs w over e b fits result other = by_group (next_piece p c gr 0 h fs w) (runs_at c gr w.depth) refl
     where
       by_group : (o : Option (ℕ × Piece)) (t : Bool) → runs_at c gr w.depth ≡ t → Stays (if t then begin_piece p gr o h fs (raised w) over else over)
@@ -139,4 +139,4 @@ module _ (p : Program) (k : Contracts) (ms : List MethodDesc) (g : AddedNumbers)
       here = goes_at p h (LeadIn q) l hs fs w
 
       empty_at : q ≡ c.effective.lead_end → l.stack ≡ []
-      empty_at s = no_stack l.stack (a.height c a.places.old e refl ∙ ap (λ z. (r.heights h.method c a.places.old e).height (LeadIn z)) s ∙ (r.heights h.method c a.places.old e).entry)
+      empty_at s = no_stack l.stack ((r.heights h.method c a.places.old e).entry (length l.stack + 0) (a.height c a.places.old e refl ∙ ap (λ z. (r.heights h.method c a.places.old e).height (LeadIn z)) s))

@@ -33,7 +33,7 @@ use Rattle.splice_facts.specs.WellFormed.{Bounds, WellFormedValue, WellFormedVal
 use Rattle.splice_facts.specs.Related.{Rewritten, ValidFrame, ValidFrames, HeightsBelow, HasResult, bounds, in_group, count_groups}
 use Rattle.simulation_objects.proofs.StoredLaws.{boxed_fine, struct_fine, fields_fine, get_fine, cell_there, object_fine, static_cells_fine}
 use Rattle.simulation_valid.specs.Changes.{LocalChange, ChangedFrame, ChangedFrames, Written}
-use Rattle.simulation_valid.specs.Keeping.{StructThere, AllReturn, CountsResult, ReturnsFully, Placed, PlacedAt, TailHeights}
+use Rattle.simulation_valid.specs.Keeping.{StructThere, AllReturn, KeepsReturned, ReturnsFully, Placed, PlacedAt, TailHeights}
 use Rattle.simulation_valid.proofs.WorldLaws.{WellFormedEntry, statics_found, statics_set}
 use Rattle.simulation_valid.proofs.PushValidLaws.{counted_moved}
 use Rattle.simulation_valid.specs.Steps.{NextHeight}
@@ -272,7 +272,7 @@ same_result p (InGroup group.Throw j q) f l e h = tt
 same_result p (InGroup group.Invariant j q) f l e h = tt
 same_result p (InGroup group.Inline j q) f l e h = tt
 
-pub same_counted : (p : Program) (at : ProgramPoint) (f : Frame) (l : LocalState) → l.result ≡ f.local.result → CountsResult p f at → CountsResult p (record f { local = l }) at
+pub same_counted : (p : Program) (at : ProgramPoint) (f : Frame) (l : LocalState) → l.result ≡ f.local.result → KeepsReturned p f at → KeepsReturned p (record f { local = l }) at
 same_counted p (LeadIn q) f l e h = tt
 same_counted p (Rest q) f l e h = tt
 same_counted p (InGroup group.Entry j q) f l e h = tt
@@ -309,8 +309,8 @@ module _ (p : Program) (k : Contracts) (ms : List MethodDesc) (g : AddedNumbers)
   pub return_changed : (f h : Frame) → ChangedFrame Bs f h → ReturnsFully p f → ReturnsFully p h
   return_changed f h c v = subst (ReturnsFully p) (sym c.same) (v.0, struct_stays f.continuation f.local.args (c.local).args (c.change).args v.1, v.2, v.3)
 
-  pub counted_changed : (f h : Frame) → ChangedFrame Bs f h → CountsResult p f f.at → CountsResult p h h.at
-  counted_changed f h c v = subst (λ (z : Frame). CountsResult p z z.at) (sym c.same) (same_counted p f.at f c.local (c.change).result v)
+  pub counted_changed : (f h : Frame) → ChangedFrame Bs f h → KeepsReturned p f f.at → KeepsReturned p h h.at
+  counted_changed f h c v = subst (λ (z : Frame). KeepsReturned p z z.at) (sym c.same) (same_counted p f.at f c.local (c.change).result v)
 
   pub returns_changed : (fs gs : List Frame) → ChangedFrames Bs fs gs → AllReturn p fs → AllReturn p gs
   returns_changed [] [] c v = tt
@@ -321,7 +321,7 @@ module _ (p : Program) (k : Contracts) (ms : List MethodDesc) (g : AddedNumbers)
   pub height_changed : (f h : Frame) (at : ProgramPoint) (n : ℕ) → ChangedFrame Bs f h → Rattle.splice_facts.specs.Related.HasHeight p k ms g r f at n → Rattle.splice_facts.specs.Related.HasHeight p k ms g r h at n
   height_changed f h at n c v =
       subst (λ z. Rattle.splice_facts.specs.Related.HasHeight p k ms g r z at n) (sym c.same)
-      (λ plan old e outer. ap (λ s. length s + n) (c.change).stack ∙ v plan old e outer)
+      (λ plan old e outer. ap (λ s. Some (length s + n)) (c.change).stack ∙ v plan old e outer)
 
   pub heights_changed : (f h : Frame) (fs gs : List Frame) → h.method ≡ f.method → h.continuation ≡ f.continuation → ChangedFrames Bs fs gs → HeightsBelow p k ms g r f fs → HeightsBelow p k ms g r h gs
   heights_changed f h [] [] e q c v = tt

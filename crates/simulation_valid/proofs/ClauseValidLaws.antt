@@ -1,5 +1,5 @@
 -- Clauses end, old values are captured and recalled, and Assert and Assume are checked where they stand.
-use Rattle.std.proofs.Common.{◌≡◌, ℕ, zero, suc, ◌+◌, ◌≤◌, Bool, true, false, List, [], ◌∷◌, map, Option, Some, None, refl, sym, ap, ◌∙◌, subst, arith}
+use Rattle.std.proofs.Common.{◌≡◌, ℕ, zero, suc, ◌+◌, ◌≤◌, Bool, true, false, List, [], ◌∷◌, map, Option, Some, None, refl, sym, ap, ◌∙◌, subst, length}
 use Rattle.std.specs.Prelude.{◌==◌, if◌then◌else◌, option_map, option_and_then, slice_get, slice_set}
 use Rattle.cil_model.specs.declared.value.Value.{Value, out-Value, Null}
 use Rattle.cil_model.specs.declared.body.Instr.{Instr}
@@ -32,7 +32,8 @@ use Rattle.splice_facts.specs.Input.{is_group}
 use Rattle.splice_facts.specs.Layout.{IsHere, fetch}
 use Rattle.splice_facts.specs.Related.{Rewritten, FitsAt, HasHeight, bounds, in_group, count_groups}
 use Rattle.simulation_objects.proofs.StoredLaws.{cell_there}
-use Rattle.simulation_valid.specs.Keeping.{CountsResult, StaysValid, ValidPlaces, ValidBelow}
+use Rattle.simulation_valid.proofs.HeightLaws.{and_none, but_none}
+use Rattle.simulation_valid.specs.Keeping.{KeepsReturned, StaysValid, ValidPlaces, ValidBelow}
 use Rattle.simulation_valid.proofs.FrameLaws as Standing
 use Rattle.simulation_valid.proofs.UnwindValidLaws.{restacked, places_of, unwinds, unwinds_top, tail_of}
 use Rattle.simulation_valid.proofs.PushValidLaws.{arrives_from}
@@ -117,7 +118,7 @@ module _ (p : Program) (k : Contracts) (ms : List MethodDesc) (g : AddedNumbers)
   piece_passes c gr j q f l fs w v e at a places same ok d h =
       let top1 = relocal p k ms g r f l fs w a.top places same in
       pieces_end p k ms g r c gr j q (record f { local = l }) fs v e places (other_world (record f { local = l }) fs w v top1.below ok) a.placed (d ∙ top1.count ∙ ap (λ z. in_group z + count_groups fs) at) (subst (λ n. n ≤ suc k.settings.guard) (sym d) top1.deep)
-      (subst (λ z. FitsAt (Standing.Fits p k ms g r) z f.thrown) at a.top.frame.stands.fits) (subst (λ z. CountsResult p (record f { local = l }) z) at top1.counted)
+      (subst (λ z. FitsAt (Standing.Fits p k ms g r) z f.thrown) at a.top.frame.stands.fits) (subst (λ z. KeepsReturned p (record f { local = l }) z) at top1.counted)
 
   -- the call that ends a clause
   pub clauses_end_valid : (c : Plan) (gr : Group) (j q : ℕ) (x : Piece) (i : Instr) (f : Frame) (fs : List Frame) (w : World) → plan_at k p f.method ≡ Some c → f.at ≡ InGroup gr j q → RunsHere p k ms g r f fs w
@@ -197,7 +198,7 @@ module _ (p : Program) (k : Contracts) (ms : List MethodDesc) (g : AddedNumbers)
         record {
           places = restacked p k ms g r f rest fs (places_of p k ms g r f fs a.top.frame a.top.as_named) fine;
           same = refl;
-          height = λ plan old q outer. omega (arith, (r.heights f.method plan old q).checks f.at i kd f.local.stack rest (subst (λ o. IsHere o f.at) q a.here) outer (subst (λ y. fetch p k g (Some y) f.method f.at ≡ Some i) (same_plan plan q) found) call (omega (arith, height plan old q outer)) s);
+          height = λ plan old q outer. and_none (length rest) _ ((r.heights f.method plan old q).checks f.at i kd f.local.stack rest (subst (λ o. IsHere o f.at) q a.here) outer (subst (λ y. fetch p k g (Some y) f.method f.at ≡ Some i) (same_plan plan q) found) call (but_none (length f.local.stack) _ (height plan old q outer)) s);
         }
 
     passes_on : (rest : List Value) (v : World) → Leaves p k ms g r f (with_stack f.local rest) fs 0 → WellFormedWorld Bs v → v.depth ≡ w.depth → Stays (go_on p k f (with_stack f.local rest) fs v)

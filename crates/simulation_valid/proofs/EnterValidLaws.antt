@@ -30,7 +30,7 @@ use Rattle.splice_facts.specs.Related.{Rewritten, ValidFrame, ValidFrames, Heigh
 use Rattle.splice_facts.specs.Related as Pairs
 use Rattle.simulation_steps.proofs.EnterLaws.{new_stands}
 use Rattle.simulation_objects.proofs.StoredLaws.{boxed_fine, default_fine, defaults_fine, static_cells_fine}
-use Rattle.simulation_valid.specs.Keeping.{StructThere, NoneVoid, CountsResult, AllReturn, StaysValid}
+use Rattle.simulation_valid.specs.Keeping.{StructThere, NoneVoid, KeepsReturned, AllReturn, StaysValid}
 use Rattle.simulation_valid.proofs.ArriveValidLaws.{arrives}
 use Rattle.simulation_valid.proofs.UnwindValidLaws.{places_of, GoesDown, unwinds, first_outside}
 use Rattle.simulation_valid.proofs.WorldLaws.{statics_set}
@@ -99,7 +99,7 @@ module _ (p : Program) (k : Contracts) (ms : List MethodDesc) (g : AddedNumbers)
   result_first f None = tt
   result_first f (Some c) = tt
 
-  counted_first : (f : Frame) (o : Option Plan) → CountsResult p f (first_place o)
+  counted_first : (f : Frame) (o : Option Plan) → KeepsReturned p f (first_place o)
   counted_first f None = tt
   counted_first f (Some c) = tt
 

@@ -27,7 +27,7 @@ use Rattle.cil_semantics.specs.Returns.{result_type, kept_as}
 use Rattle.splice_facts.specs.Input.{is_group, top_of}
 use Rattle.splice_facts.specs.Spliced.{AreLow, Current, FitsGroup}
 use Rattle.splice_facts.specs.Related.{HandlersLead, CauseLeads, Rewritten, Valid, ValidFrame, ValidFrames, HeightsBelow, HasHeight, FitsAt, HasResult, written, in_group, count_groups}
-use Rattle.simulation_valid.specs.Keeping.{ReturnsFully, CountsResult, StaysValid, MayArrive}
+use Rattle.simulation_valid.specs.Keeping.{ReturnsFully, KeepsReturned, StaysValid, MayArrive}
 
 -- what is kept of what is kept is the same
 kept_twice : (t : Handling → Bool) (hs : List Handling) → filter t (filter t hs) ≡ filter t hs
@@ -39,7 +39,7 @@ kept_twice t (h ∷ hs) = by_test (t h) refl (kept_twice t hs)
     by_test false e ih = ih
 
 -- what a frame returns goes by its method, its types and its result alone
-counted_at : (p : Program) (at to : ProgramPoint) (f : Frame) (hs : List Handling) → CountsResult p f at → CountsResult p (record f { at = to; handling = hs }) at
+counted_at : (p : Program) (at to : ProgramPoint) (f : Frame) (hs : List Handling) → KeepsReturned p f at → KeepsReturned p (record f { at = to; handling = hs }) at
 counted_at p (LeadIn q) to f hs h = tt
 counted_at p (Rest q) to f hs h = tt
 counted_at p (InGroup group.Entry j q) to f hs h = tt
@@ -64,11 +64,11 @@ one_there : (o : Option Value) (b : Bool) → b ≡ false → length (top_of o) 
 one_there None b e q = let z : 0 ≡ 1 = q ∙ ap (λ (c : Bool). if c then 0 else 1) e in absurd (omega (arith, z))
 one_there (Some v) b e q = refl
 
-has_result : (p : Program) (at : ProgramPoint) (f : Frame) → ReturnsFully p f → CountsResult p f at → HasResult p f at
+has_result : (p : Program) (at : ProgramPoint) (f : Frame) → ReturnsFully p f → KeepsReturned p f at → HasResult p f at
 has_result p (LeadIn q) f n h = tt
 has_result p (Rest q) f n h = tt
 has_result p (InGroup group.Entry j q) f n h = tt
-has_result p (InGroup group.Exit j q) f n h = λ e. one_there f.local.result (is_void (storage p (method_of p f.method).result)) (sym n.0 ∙ not_void p (result_type p f) (storage p (result_type p f)) e) h
+has_result p (InGroup group.Exit j q) f n h = λ e. one_there f.local.result (is_void (storage p (method_of p f.method).result)) (sym n.0 ∙ not_void p (result_type p f) (storage p (result_type p f)) e) h.0
 has_result p (InGroup group.Throw j q) f n h = tt
 has_result p (InGroup group.Invariant j q) f n h = tt
 has_result p (InGroup group.Inline j q) f n h = tt

@@ -26,3 +26,4 @@ pub mod ObjectActLaws
 pub mod FieldActLaws
 pub mod ArrayActLaws
 pub mod ClassActLaws
+pub mod HeightLaws

@@ -1,5 +1,5 @@
 -- Loads, stores and statics in the topmost frame.
-use Rattle.std.proofs.Common.{◌≡◌, ℕ, suc, ◌+◌, ◌≤◌, Bool, true, false, List, [], ◌∷◌, length, Option, Some, None, refl, sym, ap, ◌∙◌, subst, arith}
+use Rattle.std.proofs.Common.{◌≡◌, ℕ, suc, ◌+◌, ◌≤◌, Bool, true, false, List, [], ◌∷◌, length, Option, Some, None, refl, sym, ap, ◌∙◌, subst}
 use Rattle.std.specs.Prelude.{option_and_then}
 use Rattle.cil_model.specs.declared.value.Value.{Value, out-Value, Ptr}
 use Rattle.cil_model.specs.declared.value.Value.TheOpen.{Value-F}
@@ -24,6 +24,7 @@ use Rattle.splice_facts.specs.Input.{access_count}
 use Rattle.splice_facts.specs.Related.{Rewritten, ValidFrames, HasHeight, bounds}
 use Rattle.simulation_objects.specs.Calls.{WellFormedFrames}
 use Rattle.simulation_objects.proofs.StoredLaws.{native_fine, read_fine, cut_fine, long_fine, same_reference, same_address, same_unread}
+use Rattle.simulation_valid.proofs.HeightLaws.{but_none, and_one}
 use Rattle.simulation_valid.specs.Keeping.{StaysValid, ValidPlaces}
 use Rattle.simulation_valid.proofs.ArriveValidLaws.{below_same}
 use Rattle.simulation_valid.proofs.UnwindValidLaws.{restacked, places_of}
@@ -113,10 +114,10 @@ module _ (p : Program) (k : Contracts) (ms : List MethodDesc) (g : AddedNumbers)
 
   -- the frame goes on behind the instruction
   pub goes_on_valid : (f : Frame) (l : Local) (fs : List Frame) (w : World) → Topmost p k ms g r f fs w → Leaves p k ms g r f l fs 0 → Stays (Rattle.cil_semantics.specs.Frames.go_on p k f l fs w)
-  goes_on_valid f l fs w top a = arrives_from p k ms g r f (place_in f.at + 1) l fs w top a.places a.same (λ plan old e outer. omega (arith, a.height plan old e outer))
+  goes_on_valid f l fs w top a = arrives_from p k ms g r f (place_in f.at + 1) l fs w top a.places a.same (λ plan old e outer. but_none (length l.stack) _ (a.height plan old e outer))
 
   pub pushes_on_valid : (f : Frame) (l : Local) (v : Value) (fs : List Frame) (w : World) → Topmost p k ms g r f fs w → Leaves p k ms g r f l fs 1 → WellFormedValue Bs v → Stays (Rattle.cil_semantics.specs.Frames.go_on p k f (pushed v l) fs w)
-  pushes_on_valid f l v fs w top a fine = arrives_from p k ms g r f (place_in f.at + 1) (pushed v l) fs w top (restacked p k ms g r (record f { local = l }) (v ∷ l.stack) fs a.places (fine, a.places.fine.stack)) a.same (λ plan old e outer. omega (arith, a.height plan old e outer))
+  pushes_on_valid f l v fs w top a fine = arrives_from p k ms g r f (place_in f.at + 1) (pushed v l) fs w top (restacked p k ms g r (record f { local = l }) (v ∷ l.stack) fs a.places (fine, a.places.fine.stack)) a.same (λ plan old e outer. and_one (length l.stack) _ (a.height plan old e outer))
 
   pub loads_valid : (q : Pointer) (h : Storage) (f : Frame) (l : Local) (fs : List Frame) (w : World) → Topmost p k ms g r f fs w → Leaves p k ms g r f l fs 1 → WellFormedPointer Bs q → Stays (load p k q h f l fs w)
   loads_valid q h f l fs w top a fq = by_read (read p (record f { local = l } ∷ fs) w q) refl

@@ -1,5 +1,5 @@
 -- What an act that calls nothing comes to is valid.
-use Rattle.std.proofs.Common.{◌≡◌, ℕ, suc, ◌<◌, ◌≤◌, List, [], ◌∷◌, refl, sym, ◌∙◌, subst, arith}
+use Rattle.std.proofs.Common.{◌≡◌, ℕ, suc, ◌<◌, ◌≤◌, List, [], ◌∷◌, refl, sym, ◌∙◌, subst, length}
 use Rattle.std.specs.Prelude.{IsTrue}
 use Rattle.cil_model.specs.declared.ty.Ty.{Ty}
 use Rattle.cil_model.specs.declared.contract.Contracts.{Contracts}
@@ -27,6 +27,7 @@ use Rattle.splice_facts.specs.Layout.{IsHere}
 use Rattle.splice_facts.specs.Related.{HandlersLead, Rewritten, HasHeight, bounds}
 use Rattle.splice_facts.specs.Related as Pairs
 use Rattle.simulation_steps.proofs.PerformLaws.{made_depth}
+use Rattle.simulation_valid.proofs.HeightLaws.{but_none}
 use Rattle.simulation_valid.specs.Keeping.{NoneVoid, StaysValid}
 use Rattle.simulation_valid.specs.Steps.{Topmost, Leaves, RunsHere, MayEnd, ValidAct}
 use Rattle.simulation_valid.proofs.WorldLaws.{object_added}
@@ -73,7 +74,7 @@ module _ (p : Program) (k : Contracts) (ms : List MethodDesc) (g : AddedNumbers)
   pub performs_valid : (a : Act) (f : Frame) (fs : List Frame) (w : World) → RunsHere p k ms g r f fs w → ValidAct p k ms g r f fs a → Stays (perform p k g a f fs w)
   performs_valid Stuck f fs w a v = tt
   performs_valid (GoOn made l) f fs w a v = goes_on_valid p k ms g r f l fs (with_objects p made w) (in_world f fs w (with_objects p made w) a.top (objects_added Bs p made w v.0 a.top.below.world) (made_depth p k ms g r made w)) v.1
-  performs_valid (Jump t l) f fs w a v = arrives_from p k ms g r f t l fs w a.top v.0 v.1 (λ plan old e outer. omega (arith, v.2 plan old e outer))
+  performs_valid (Jump t l) f fs w a v = arrives_from p k ms g r f t l fs w a.top v.0 v.1 (λ plan old e outer. but_none (length l.stack) _ (v.2 plan old e outer))
   performs_valid (Raise name) f fs w a v = raises_valid name f fs w a
   performs_valid (Throw x) f fs w a v = throws_top p k ms g r f fs w x a
   performs_valid Rethrow f fs w a v = rethrows_valid p k ms g r (innermost f.handling) f fs w a

@@ -33,7 +33,8 @@ use Rattle.splice_facts.specs.Input.{top_of, result_count}
 use Rattle.splice_facts.specs.Related.{Rewritten, ValidFrames, HeightsBelow, HasHeight, FitsAt, bounds, in_group, count_groups}
 use Rattle.splice_facts.specs.Related as Pairs
 use Rattle.splice_facts.specs.Layout.{IsHere}
-use Rattle.simulation_valid.specs.Keeping.{StructThere, CountsResult, StaysValid, ValidPlaces, ValidBelow, Placed}
+use Rattle.splice_facts.proofs.StoreLaws.{returned_stays}
+use Rattle.simulation_valid.specs.Keeping.{StructThere, KeepsReturned, StaysValid, ValidPlaces, ValidBelow, Placed, Returnable}
 use Rattle.simulation_valid.proofs.FrameLaws as Standing
 use Rattle.simulation_valid.proofs.FrameLaws.{same_below}
 use Rattle.simulation_valid.proofs.ArriveValidLaws.{MayBegin, below_same, piece_begins, rest_begins, group_begins}
@@ -99,7 +100,7 @@ kept_count b p t Opaque (x ∷ xs) v fine e = from_stored b p t x v fine.0 e
 kept_count b p t Anything [] v fine e = absurd (cc e)
 kept_count b p t Anything (x ∷ xs) v fine e = from_stored b p t x v fine.0 e
 
-counted_group : (p : Program) (gr : Group) (f : Frame) (j q j2 q2 : ℕ) → CountsResult p f (InGroup gr j q) → CountsResult p (record f { local = with_stack f.local [] }) (InGroup gr j2 q2)
+counted_group : (p : Program) (gr : Group) (f : Frame) (j q j2 q2 : ℕ) → KeepsReturned p f (InGroup gr j q) → KeepsReturned p (record f { local = with_stack f.local [] }) (InGroup gr j2 q2)
 counted_group p group.Entry f j q j2 q2 h = tt
 counted_group p group.Exit f j q j2 q2 h = h
 counted_group p group.Throw f j q j2 q2 h = tt
@@ -223,13 +224,13 @@ module _ (p : Program) (k : Contracts) (ms : List MethodDesc) (g : AddedNumbers)
   emptied : (h : Frame) (fs : List Frame) (w : World) → AtEnd h fs w → MayBegin p k ms g r (record h { local = with_stack h.local [] }) fs w
   emptied h fs w a = record { places = restacked p k ms g r h [] fs a.places tt; below = below_same p k ms g r h (record h { local = with_stack h.local [] }) fs w refl refl a.below; count = a.count; deep = a.deep }
 
-  invariants_begin : (c : Plan) (h : Frame) (fs : List Frame) (w : World) → plan_at k p h.method ≡ Some c → AtEnd h fs w → Fits group.Invariant h.thrown → length (top_of h.local.result) ≡ result_count p h.method → Stays (begin_invariants p k c h fs w)
-  invariants_begin c h fs w e a fits many = group_begins p k ms g r c group.Invariant h fs w (return_to p k h fs w) e (emptied h fs w a) fits (λ j q. many) (frame_returns h fs w a many)
+  invariants_begin : (c : Plan) (h : Frame) (fs : List Frame) (w : World) → plan_at k p h.method ≡ Some c → AtEnd h fs w → Fits group.Invariant h.thrown → Returnable p h → Stays (begin_invariants p k c h fs w)
+  invariants_begin c h fs w e a fits many = group_begins p k ms g r c group.Invariant h fs w (return_to p k h fs w) e (emptied h fs w a) fits (λ j q. many) (frame_returns h fs w a many.0)
 
-  pub groups_end : (c : Plan) (gr : Group) (h : Frame) (fs : List Frame) (w : World) (j q : ℕ) → plan_at k p h.method ≡ Some c → AtEnd h fs w → Fits gr h.thrown → CountsResult p h (InGroup gr j q) → Stays (group_over p k c gr h fs w)
+  pub groups_end : (c : Plan) (gr : Group) (h : Frame) (fs : List Frame) (w : World) (j q : ℕ) → plan_at k p h.method ≡ Some c → AtEnd h fs w → Fits gr h.thrown → KeepsReturned p h (InGroup gr j q) → Stays (group_over p k c gr h fs w)
   groups_end c group.Entry h fs w j q e a fits many = rest_begins p k ms g r c (record h { local = with_stack h.local [] }) fs w e (emptied h fs w a) fits refl
   groups_end c group.Exit h fs w j q e a fits many = invariants_begin c h fs w e a (none_thrown group.Invariant h.thrown fits (λ z. cc z)) many
-  groups_end c group.Invariant h fs w j q e a fits many = frame_returns h fs w a many
+  groups_end c group.Invariant h fs w j q e a fits many = frame_returns h fs w a many.0
   groups_end c group.Throw h fs w j q e a fits many = by_thrown h.thrown
     where
       by_thrown : (o : Option ℕ) → Stays (maybe (Rattle.cil_semantics.specs.Frames.stuck w) (λ x. ends_frame p h.initializes h.continuation w x (λ s v y. unwind p k s fs v y)) o)
@@ -242,7 +243,7 @@ module _ (p : Program) (k : Contracts) (ms : List MethodDesc) (g : AddedNumbers)
       record { places = places; below = lowered_below p k ms g r h h fs w refl refl below; placed = placed; count = omega (arith, count); deep = omega (arith, deep) }
 
   -- behind a piece the next one begins, or the group is over
-  pub pieces_end : (c : Plan) (gr : Group) (j q : ℕ) (h : Frame) (fs : List Frame) (w : World) → plan_at k p h.method ≡ Some c → ValidPlaces p k ms g r h fs → ValidBelow p k ms g r h fs w → Placed p k ms g r h.continuation fs → w.depth ≡ 1 + count_groups fs → w.depth ≤ suc k.settings.guard → Fits gr h.thrown → CountsResult p h (InGroup gr j q) → Stays (piece_over p k c gr j h fs w)
+  pub pieces_end : (c : Plan) (gr : Group) (j q : ℕ) (h : Frame) (fs : List Frame) (w : World) → plan_at k p h.method ≡ Some c → ValidPlaces p k ms g r h fs → ValidBelow p k ms g r h fs w → Placed p k ms g r h.continuation fs → w.depth ≡ 1 + count_groups fs → w.depth ≤ suc k.settings.guard → Fits gr h.thrown → KeepsReturned p h (InGroup gr j q) → Stays (piece_over p k c gr j h fs w)
   pieces_end c gr j q h fs w e places below placed count deep fits many = by_next (next_piece p c gr (j + 1) h fs w)
     where
       by_next : (o : Option (ℕ × Piece)) → Stays (begin_piece p gr o h fs w (group_over p k c gr h fs (lowered w)))
@@ -268,11 +269,11 @@ module _ (p : Program) (k : Contracts) (ms : List MethodDesc) (g : AddedNumbers)
       ended : in_group at ≡ 0 → AtEnd h fs w
       ended z = record { places = places; below = below; placed = placed; count = omega (arith, count, z); deep = deep }
 
-      from : (o : Option Plan) (to : ProgramPoint) (v : Option Value) → plan_at k p h.method ≡ o → IsHere o to → (in_group to ≡ 0 → AtEnd (with_local (record h.local { result = v }) h) fs w) → FitsAt Fits to h.thrown → length (top_of v) ≡ result_count p h.method → w.depth ≡ in_group to + count_groups fs → Stays (return_from p k o to (with_local (record h.local { result = v }) h) fs w)
-      from None (LeadIn q) v e hr a ft many ct = frame_returns (with_local (record h.local { result = v }) h) fs w (a refl) many
-      from None (Rest q) v e hr a ft many ct = frame_returns (with_local (record h.local { result = v }) h) fs w (a refl) many
+      from : (o : Option Plan) (to : ProgramPoint) (v : Option Value) → plan_at k p h.method ≡ o → IsHere o to → (in_group to ≡ 0 → AtEnd (with_local (record h.local { result = v }) h) fs w) → FitsAt Fits to h.thrown → Returnable p (with_local (record h.local { result = v }) h) → w.depth ≡ in_group to + count_groups fs → Stays (return_from p k o to (with_local (record h.local { result = v }) h) fs w)
+      from None (LeadIn q) v e hr a ft many ct = frame_returns (with_local (record h.local { result = v }) h) fs w (a refl) many.0
+      from None (Rest q) v e hr a ft many ct = frame_returns (with_local (record h.local { result = v }) h) fs w (a refl) many.0
       from None (InGroup gr j q) v e hr a ft many ct = absurd hr
-      from (Some c) (LeadIn q) v e hr a ft many ct = frame_returns (with_local (record h.local { result = v }) h) fs w (a refl) many
+      from (Some c) (LeadIn q) v e hr a ft many ct = frame_returns (with_local (record h.local { result = v }) h) fs w (a refl) many.0
       from (Some c) (InGroup gr j q) v e hr a ft many ct = tt
       from (Some c) (Rest q) v e hr a ft many ct =
           group_begins p k ms g r c group.Exit (with_local (record h.local { result = v }) h) fs w (begin_invariants p k c (with_local (record h.local { result = v }) h) fs w) e (emptied (with_local (record h.local { result = v }) h) fs w (a refl)) (none_thrown group.Exit h.thrown ft (λ z. cc z)) (λ j q1. many)
@@ -283,4 +284,4 @@ module _ (p : Program) (k : Contracts) (ms : List MethodDesc) (g : AddedNumbers)
       by_value (Some v) e =
           let kept = kept_count Bs p (result_type p h) (storage p (result_type p h)) h.local.stack v places.fine.stack e in
           let many : length (top_of v) ≡ result_count p h.method = kept.many ∙ ap (λ (c : Bool). if c then 0 else 1) places.as_named.0 in
-          from (plan_at k p h.method) at v refl here (λ z. with_result h v fs w (ended z) kept.fine) fits many count
+          from (plan_at k p h.method) at v refl here (λ z. with_result h v fs w (ended z) kept.fine) fits (many, returned_stays p h h.local.stack v e) count

@@ -1,5 +1,5 @@
 -- The heights of what an act leaves are those of the body, so a step at an instruction that calls nothing needs well-formed values alone.
-use Rattle.std.proofs.Common.{◌≡◌, ◌<◌, true, false, List, [], Option, Some, None, refl, sym, ◌∙◌, subst, arith}
+use Rattle.std.proofs.Common.{◌≡◌, ◌<◌, true, false, List, [], Option, Some, None, refl, sym, ◌∙◌, subst, length}
 use Rattle.std.proofs.lemmas.List.{length-append}
 use Rattle.cil_model.specs.declared.body.Instr.{Instr}
 use Rattle.cil_model.specs.declared.contract.Contracts.{Contracts}
@@ -22,6 +22,7 @@ use Rattle.splice_facts.specs.Grown.{NamesLocals}
 use Rattle.splice_facts.specs.Input.{is_group, never_in_clause, PiecesIf, LeavesHeight}
 use Rattle.splice_facts.specs.Layout.{IsHere, fetch}
 use Rattle.splice_facts.specs.Related.{Rewritten, HasHeight, bounds}
+use Rattle.simulation_valid.proofs.HeightLaws.{and_none, but_none}
 use Rattle.simulation_valid.specs.Keeping.{StaysValid}
 use Rattle.simulation_valid.specs.Steps.{RunsHere, FineAct, MayStep, ValidAct}
 use Rattle.simulation_valid.proofs.ClassActLaws.{classes_fine}
@@ -35,8 +36,8 @@ module _ (p : Program) (k : Contracts) (ms : List MethodDesc) (g : AddedNumbers)
 
   act_valid : (a : Act) (f : Frame) (fs : List Frame) → HasHeights f a → FineAct p k ms g r f fs a → ValidAct p k ms g r f fs a
   act_valid Stuck f fs h v = v
-  act_valid (GoOn made l) f fs h v = (v.0, record { places = v.1; same = v.2; height = λ plan old e outer. omega (arith, h plan old e outer) })
-  act_valid (Jump t l) f fs h v = (v.0, v.1, λ plan old e outer. omega (arith, h plan old e outer))
+  act_valid (GoOn made l) f fs h v = (v.0, record { places = v.1; same = v.2; height = λ plan old e outer. and_none (length l.stack) _ (h plan old e outer) })
+  act_valid (Jump t l) f fs h v = (v.0, v.1, λ plan old e outer. and_none (length l.stack) _ (h plan old e outer))
   act_valid (Raise name) f fs h v = v
   act_valid (Throw x) f fs h v = v
   act_valid Rethrow f fs h v = v
@@ -44,8 +45,8 @@ module _ (p : Program) (k : Contracts) (ms : List MethodDesc) (g : AddedNumbers)
   act_valid EndHandler f fs h v = v
   act_valid Return f fs h v = v
   act_valid (Load q s l) f fs h v = (record { places = v.0; same = v.1; height = λ plan old e outer. h plan old e outer }, v.2)
-  act_valid (Store q x l) f fs h v = (record { places = v.0; same = v.1; height = λ plan old e outer. omega (arith, h plan old e outer) }, v.2, v.3)
-  act_valid (Copy to from s l) f fs h v = (record { places = v.0; same = v.1; height = λ plan old e outer. omega (arith, h plan old e outer) }, v.2, v.3)
+  act_valid (Store q x l) f fs h v = (record { places = v.0; same = v.1; height = λ plan old e outer. and_none (length l.stack) _ (h plan old e outer) }, v.2, v.3)
+  act_valid (Copy to from s l) f fs h v = (record { places = v.0; same = v.1; height = λ plan old e outer. and_none (length l.stack) _ (h plan old e outer) }, v.2, v.3)
   act_valid (UseStatic t c l) f fs h v = (record { places = v.0; same = v.1; height = λ plan old e outer. h plan old e outer }, v.2, v.3, v.4)
   act_valid (CallMember c l) f fs h v = absurd v
   act_valid (CallVirtual c l) f fs h v = absurd v
@@ -85,7 +86,7 @@ module _ (p : Program) (k : Contracts) (ms : List MethodDesc) (g : AddedNumbers)
   step_of_act i f fs w a height found fine =
       performs_valid p k ms g r (act p (here_of f fs) i w f.local) f fs w a
       (act_valid (act p (here_of f fs) i w f.local) f fs
-      (λ plan old e outer. (r.heights f.method plan old e).keeps f.at i (here_of f fs) w f.local refl (subst (λ o. IsHere o f.at) e a.here) outer (subst (λ o. fetch p k g o f.method f.at ≡ Some i) e found) (omega (arith, height plan old e outer))) fine)
+      (λ plan old e outer. (r.heights f.method plan old e).keeps f.at i (here_of f fs) w f.local refl (subst (λ o. IsHere o f.at) e a.here) outer (subst (λ o. fetch p k g o f.method f.at ≡ Some i) e found) (but_none (length f.local.stack) _ (height plan old e outer))) fine)
 
   pub steps_valid : (i : Instr) (f : Frame) (fs : List Frame) (w : World) → RunsHere p k ms g r f fs w → HasHeight p k ms g r f f.at 0 → fetch p k g (plan_at k p f.method) f.method f.at ≡ Some i → MayStep p k ms g r i f fs w (class_of i.op) → StaysValid p k ms g r (run_plain p k g i f fs w)
   steps_valid i f fs w a height found may = step_of_act i f fs w a height found (acts_fine i f fs w a found may)

@@ -27,7 +27,8 @@ use Rattle.splice_facts.specs.Input.{is_group, LandsAt}
 use Rattle.splice_facts.specs.Layout.{IsHere}
 use Rattle.splice_facts.specs.Related.{CauseLeads, Rewritten, ValidFrame, ValidFrames, HeightsBelow, FitsAt, bounds, in_group, count_groups}
 use Rattle.simulation.proofs.PushLaws.{fits_moved}
-use Rattle.simulation_valid.specs.Keeping.{ReturnsFully, CountsResult, AllReturn, StaysValid, ValidPlaces, ValidBelow, Placed, PlacedAt, ValidTail}
+use Rattle.simulation_valid.proofs.HeightLaws.{and_none}
+use Rattle.simulation_valid.specs.Keeping.{ReturnsFully, KeepsReturned, AllReturn, StaysValid, ValidPlaces, ValidBelow, Placed, PlacedAt, ValidTail}
 use Rattle.simulation_valid.proofs.FrameLaws as Standing
 use Rattle.simulation_valid.proofs.FrameLaws.{stands_valid}
 use Rattle.simulation_valid.proofs.ArriveValidLaws.{below_same, piece_begins, rest_begins, group_begins}
@@ -44,7 +45,7 @@ not_in_group (LeadIn q) e = refl
 not_in_group (Rest q) e = refl
 not_in_group (InGroup gr j q) e = absurd (cc e)
 
-pub no_result_outside : (p : Program) (f : Frame) (at : ProgramPoint) (t : ℕ) → is_group at ≡ false → CountsResult p f (moved_to t at)
+pub no_result_outside : (p : Program) (f : Frame) (at : ProgramPoint) (t : ℕ) → is_group at ≡ false → KeepsReturned p f (moved_to t at)
 no_result_outside p f (LeadIn q) t e = tt
 no_result_outside p f (Rest q) t e = tt
 no_result_outside p f (InGroup gr j q) t e = absurd (cc e)
@@ -101,11 +102,11 @@ module _ (p : Program) (k : Contracts) (ms : List MethodDesc) (g : AddedNumbers)
 
   -- the height at which a handler begins
   height_there : (h : Frame) (at : ProgramPoint) (t n : ℕ) → is_group at ≡ false → IsHere (plan_at k p h.method) (moved_to t at) → HandlerAt (body_of p h.method).regions t n
-      → (plan : Plan) (old : h.method < r.methods) (e : plan_at k p h.method ≡ Some plan) → n ≡ (r.heights h.method plan old e).height (moved_to t at)
+      → (plan : Plan) (old : h.method < r.methods) (e : plan_at k p h.method ≡ Some plan) → Some n ≡ (r.heights h.method plan old e).height (moved_to t at)
   height_there h at t n outer there at_row plan old e =
       let hts = r.heights h.method plan old e in
       let here : IsHere (Some plan) (moved_to at_row.row.handler_from at) = subst (λ z. IsHere (Some plan) (moved_to z at)) (sym at_row.begins) (subst (λ o. IsHere o (moved_to t at)) e there) in
-      sym at_row.height ∙ sym (hts.handlers at at_row.row at_row.there outer here) ∙ ap (λ z. hts.height (moved_to z at)) at_row.begins
+      ap (λ (m : ℕ). Some m) (sym at_row.height) ∙ sym (hts.handlers at at_row.row at_row.there outer here) ∙ ap (λ z. hts.height (moved_to z at)) at_row.begins
 
   pub handler_begins : (h : Frame) (at : ProgramPoint) (s : List Value) (new : Handling) (hs : List Handling) (q t : ℕ) (fs : List Frame) (w : World) → is_group at ≡ false → Throwing h at hs q fs w → IsHere (plan_at k p h.method) (moved_to t at) → new.handler < length (body_of p h.method).regions → IsHere (plan_at k p h.method) (moved_to new.place at) × CauseLeads p k ms g r h.method at new.cause → WellFormedValues (bounds p k ms g r) s → HandlerAt (body_of p h.method).regions t (length s)
       → Stays (Rattle.cil_semantics.specs.Unwind.goes_at p (record h { at = at }) (moved_to t at) (with_stack h.local s) (new ∷ hs) fs w)
@@ -117,7 +118,7 @@ module _ (p : Program) (k : Contracts) (ms : List MethodDesc) (g : AddedNumbers)
         fits = fits_moved Fits at t h.thrown z.fits;
         counted = no_result_outside p (record h { at = at; local = with_stack h.local s }) at t outer;
         low = λ e. ((lower, (z.low outer).0), Standing.leads_moved p k ms g r h.method at t (new ∷ hs) outer (leads, (z.low outer).1));
-        height = λ plan old e q1. omega (arith, height_there h at t (length s) outer there row plan old e);
+        height = λ plan old e q1. and_none (length s) _ (height_there h at t (length s) outer there row plan old e);
         count = z.count ∙ ap (λ n. n + count_groups fs) (not_in_group at outer ∙ sym (out_of_groups at t outer));
         deep = z.deep;
       })

@@ -18,6 +18,7 @@ use Rattle.cil_semantics.specs.declared.state.Continuation.TheVariants.{PushStru
 use Rattle.cil_semantics.specs.Contracted.{Plan}
 use Rattle.cil_semantics.specs.Unwind.{plan_at, here_of, next_place, hasnt_begun, unwind}
 use Rattle.cil_semantics.specs.Frames.{captured_tys, first_place}
+use Rattle.cil_semantics.specs.Returns.{returned}
 use Rattle.cil_semantics.specs.Checks.{AddedNumbers}
 use Rattle.machine_laws.specs.Answers.{is_below}
 pub use Rattle.splice_facts.specs.WellFormed.{NoneVoid}
@@ -36,16 +37,20 @@ StructThere _ cs = Unit {0}
 abbrev pub ReturnsFully : Program → Frame → Type 0
 ReturnsFully p f = ReturnsAsNamed p f × StructThere f.continuation f.local.args × NoneVoid p f.type_args × NoneVoid p f.method_args
 
+-- a frame has what it returns: so many values, and as another `ret` returns it
+abbrev pub Returnable : Program → Frame → Type 0
+Returnable p f = (length (top_of f.local.result) ≡ result_count p f.method) × (returned p f (top_of f.local.result) ≡ Some f.local.result)
+
 -- where a value is checked at exit, the frame has what it returns
-abbrev pub CountsResult : Program → Frame → ProgramPoint → Type 0
-CountsResult p f (InGroup group.Exit j q) = length (top_of f.local.result) ≡ result_count p f.method
-CountsResult p f (InGroup group.Invariant j q) = length (top_of f.local.result) ≡ result_count p f.method
-CountsResult p f at = Unit {0}
+abbrev pub KeepsReturned : Program → Frame → ProgramPoint → Type 0
+KeepsReturned p f (InGroup group.Exit j q) = Returnable p f
+KeepsReturned p f (InGroup group.Invariant j q) = Returnable p f
+KeepsReturned p f at = Unit {0}
 
 -- what the frames return has the number of values that those below them wait for
 abbrev pub AllReturn : Program → List Frame → Type 0
 AllReturn p [] = Unit {0}
-AllReturn p (f ∷ fs) = ReturnsFully p f × CountsResult p f f.at × AllReturn p fs
+AllReturn p (f ∷ fs) = ReturnsFully p f × KeepsReturned p f f.at × AllReturn p fs
 
 module _ (p : Program) (k : Contracts) (ms : List MethodDesc) (g : AddedNumbers) (r : Rewritten p k ms g) where
   -- what each step keeps
@@ -80,9 +85,9 @@ module _ (p : Program) (k : Contracts) (ms : List MethodDesc) (g : AddedNumbers)
     pub places : ValidPlaces (record h { local = l }) fs
     pub below : ValidBelow h fs w
     pub fits : FitsAt (FitsGroup p k (written p k ms g r) g r.types r.depths) at h.thrown
-    pub counted : CountsResult p (record h { local = l }) at
+    pub counted : KeepsReturned p (record h { local = l }) at
     pub low : is_group at ≡ false → AreLow p k (written p k ms g r) g r.types r.depths h.method hs × HandlersLead p k ms g r h.method at hs
-    pub height : (plan : Plan) (old : h.method < r.methods) (e : plan_at k p h.method ≡ Some plan) → is_group at ≡ false → length l.stack + 0 ≡ (r.heights h.method plan old e).height at
+    pub height : (plan : Plan) (old : h.method < r.methods) (e : plan_at k p h.method ≡ Some plan) → is_group at ≡ false → Some (length l.stack + 0) ≡ (r.heights h.method plan old e).height at
     pub count : w.depth ≡ in_group at + count_groups fs
     pub deep : w.depth ≤ suc k.settings.guard
 

@@ -51,7 +51,7 @@ use Rattle.splice_facts.specs.Layout.{IsHere, fetch}
 use Rattle.splice_facts.specs.Spliced.{FitsGroup, AreLow, cost}
 use Rattle.splice_facts.specs.Related.{EmptyAt, CauseLeads, HandlersLead, Rewritten, ReachesIn, ValidFrame, ValidFrames, HeightsBelow, HasHeight, bounds, written, per_frame, in_group, count_groups}
 use Rattle.simulation_valid.specs.Changes.{ChangedFrames}
-use Rattle.simulation_valid.specs.Keeping.{ReturnsFully, CountsResult, AllReturn, StructThere, NoneVoid, StaysValid, ValidPlaces, ValidBelow, ValidTail, TailHeights, Placed}
+use Rattle.simulation_valid.specs.Keeping.{ReturnsFully, KeepsReturned, AllReturn, StructThere, NoneVoid, StaysValid, ValidPlaces, ValidBelow, ValidTail, TailHeights, Placed}
 
 module _ (p : Program) (k : Contracts) (ms : List MethodDesc) (g : AddedNumbers) (r : Rewritten p k ms g) where
   abbrev Bs : Bounds
@@ -61,7 +61,7 @@ module _ (p : Program) (k : Contracts) (ms : List MethodDesc) (g : AddedNumbers)
   pub record Topmost (f : Frame) (fs : List Frame) (w : World) : Type 0 where
     pub frame : ValidFrame p k ms g r f fs
     pub as_named : ReturnsFully p f
-    pub counted : CountsResult p f f.at
+    pub counted : KeepsReturned p f f.at
     pub below : ValidBelow p k ms g r f fs w
     pub count : w.depth ≡ in_group f.at + count_groups fs
     pub deep : w.depth ≤ suc k.settings.guard
@@ -241,7 +241,7 @@ module _ (p : Program) (k : Contracts) (ms : List MethodDesc) (g : AddedNumbers)
 
   abbrev pub PiecesEndValid : Type 0
   PiecesEndValid =
-      (c : Plan) (gr : Group) (j q : ℕ) (h : Frame) (fs : List Frame) (w : World) → plan_at k p h.method ≡ Some c → ValidPlaces p k ms g r h fs → ValidBelow p k ms g r h fs w → Placed p k ms g r h.continuation fs → w.depth ≡ 1 + count_groups fs → w.depth ≤ suc k.settings.guard → FitsGroup p k (written p k ms g r) g r.types r.depths gr h.thrown → CountsResult p h (InGroup gr j q)
+      (c : Plan) (gr : Group) (j q : ℕ) (h : Frame) (fs : List Frame) (w : World) → plan_at k p h.method ≡ Some c → ValidPlaces p k ms g r h fs → ValidBelow p k ms g r h fs w → Placed p k ms g r h.continuation fs → w.depth ≡ 1 + count_groups fs → w.depth ≤ suc k.settings.guard → FitsGroup p k (written p k ms g r) g r.types r.depths gr h.thrown → KeepsReturned p h (InGroup gr j q)
       → StaysValid p k ms g r (piece_over p k c gr j h fs w)
 
   abbrev pub AsksValid : Type 0

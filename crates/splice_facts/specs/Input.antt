@@ -110,18 +110,18 @@ access_count (Write q v) = 0
 access_count _ = 1
 
 -- an act leaves the height of the place that it leads to; a call leaves what lies under its value
-abbrev pub LeavesHeight : Program → (ProgramPoint → ℕ) → ProgramPoint → Act → Type 0
-LeavesHeight p height at (GoOn made l) = length l.stack ≡ height (next_place at)
-LeavesHeight p height at (Jump t l) = length l.stack ≡ height (moved_to t at)
-LeavesHeight p height at (Leave t) = height (moved_to t at) ≡ 0
-LeavesHeight p height at (Load q h l) = length l.stack + 1 ≡ height (next_place at)
-LeavesHeight p height at (Store q v l) = length l.stack ≡ height (next_place at)
-LeavesHeight p height at (Copy q r h l) = length l.stack ≡ height (next_place at)
-LeavesHeight p height at (UseStatic t a l) = length l.stack + access_count a ≡ height (next_place at)
-LeavesHeight p height at (CallMember c l) = length l.stack + result_count p c.method ≡ height (next_place at)
-LeavesHeight p height at (CallVirtual c l) = length l.stack + result_count p c.method ≡ height (next_place at)
-LeavesHeight p height at (NewObject c l) = length l.stack + 1 ≡ height (next_place at)
-LeavesHeight p height at (LoadVirtualFunction c l) = length l.stack + 1 ≡ height (next_place at)
+abbrev pub LeavesHeight : Program → (ProgramPoint → Option ℕ) → ProgramPoint → Act → Type 0
+LeavesHeight p height at (GoOn made l) = Some (length l.stack) ≡ height (next_place at)
+LeavesHeight p height at (Jump t l) = Some (length l.stack) ≡ height (moved_to t at)
+LeavesHeight p height at (Leave t) = height (moved_to t at) ≡ Some 0
+LeavesHeight p height at (Load q h l) = Some (length l.stack + 1) ≡ height (next_place at)
+LeavesHeight p height at (Store q v l) = Some (length l.stack) ≡ height (next_place at)
+LeavesHeight p height at (Copy q r h l) = Some (length l.stack) ≡ height (next_place at)
+LeavesHeight p height at (UseStatic t a l) = Some (length l.stack + access_count a) ≡ height (next_place at)
+LeavesHeight p height at (CallMember c l) = Some (length l.stack + result_count p c.method) ≡ height (next_place at)
+LeavesHeight p height at (CallVirtual c l) = Some (length l.stack + result_count p c.method) ≡ height (next_place at)
+LeavesHeight p height at (NewObject c l) = Some (length l.stack + 1) ≡ height (next_place at)
+LeavesHeight p height at (LoadVirtualFunction c l) = Some (length l.stack + 1) ≡ height (next_place at)
 LeavesHeight p height at _ = Unit {0}
 
 -- the height where a handler begins
@@ -131,13 +131,13 @@ handler_height (region.Filter place) = 1
 handler_height region.Finally = 0
 handler_height region.Fault = 0
 
--- The heights of a body outside its clauses: 0 at its boundaries, kept by each act, and at `ret` just the value that is returned.
+-- The heights of the places of a body outside its clauses that a path leads to: 0 at its boundaries, kept by each act, and at `ret` just the value that is returned. A place without one is never reached.
 pub record StackHeights (p : Program) (k : Contracts) (g : AddedNumbers) (me : ℕ) (plan : Plan) : Type 0 where
-  pub height : ProgramPoint → ℕ
-  pub begins : height (first_place (Some plan)) ≡ 0
-  pub entry : height (LeadIn plan.effective.lead_end) ≡ 0
-  pub rest : height (Rest plan.effective.rest_from) ≡ 0
-  pub keeps : (at : ProgramPoint) (i : Instr) (here : Here) (w : World) (l : LocalState) → here.method ≡ me → IsHere (Some plan) at → is_group at ≡ false → fetch p k g (Some plan) me at ≡ Some i → length l.stack ≡ height at → LeavesHeight p height at (act p here i w l)
-  pub checks : (at : ProgramPoint) (i : Instr) (kd : ClauseKind) (s rest : List Value) → IsHere (Some plan) at → is_group at ≡ false → fetch p k g (Some plan) me at ≡ Some i → contract_call p i ≡ ChecksHere kd → length s ≡ height at → dropped (has_message p i) s ≡ Some rest → length rest ≡ height (next_place at)
-  pub handlers : (at : ProgramPoint) (r : Region) → Contains (body_of p me).regions r → is_group at ≡ false → IsHere (Some plan) (moved_to r.handler_from at) → height (moved_to r.handler_from at) ≡ handler_height r.kind
-  pub returns : (f : Frame) (i : Instr) (v : Option Value) → f.method ≡ me → ReturnsAsNamed p f → IsHere (Some plan) f.at → is_group f.at ≡ false → fetch p k g (Some plan) me f.at ≡ Some i → class_of i.op ≡ class.Return → returned p f f.local.stack ≡ Some v → height f.at ≡ length (top_of v)
+  pub height : ProgramPoint → Option ℕ
+  pub begins : height (first_place (Some plan)) ≡ Some 0
+  pub entry : (n : ℕ) → Some n ≡ height (LeadIn plan.effective.lead_end) → n ≡ 0
+  pub rest : height (Rest plan.effective.rest_from) ≡ Some 0
+  pub keeps : (at : ProgramPoint) (i : Instr) (here : Here) (w : World) (l : LocalState) → here.method ≡ me → IsHere (Some plan) at → is_group at ≡ false → fetch p k g (Some plan) me at ≡ Some i → Some (length l.stack) ≡ height at → LeavesHeight p height at (act p here i w l)
+  pub checks : (at : ProgramPoint) (i : Instr) (kd : ClauseKind) (s rest : List Value) → IsHere (Some plan) at → is_group at ≡ false → fetch p k g (Some plan) me at ≡ Some i → contract_call p i ≡ ChecksHere kd → Some (length s) ≡ height at → dropped (has_message p i) s ≡ Some rest → Some (length rest) ≡ height (next_place at)
+  pub handlers : (at : ProgramPoint) (r : Region) → Contains (body_of p me).regions r → is_group at ≡ false → IsHere (Some plan) (moved_to r.handler_from at) → height (moved_to r.handler_from at) ≡ Some (handler_height r.kind)
+  pub returns : (f : Frame) (i : Instr) (v : Option Value) → f.method ≡ me → ReturnsAsNamed p f → IsHere (Some plan) f.at → is_group f.at ≡ false → fetch p k g (Some plan) me f.at ≡ Some i → class_of i.op ≡ class.Return → returned p f f.local.stack ≡ Some v → Some (length f.local.stack) ≡ height f.at → length f.local.stack ≡ length (top_of v)

@@ -239,7 +239,7 @@ module _ (p : Program) (k : Contracts) (ms : List MethodDesc) (g : AddedNumbers)
 
   -- where a `leave` leads there is nothing on the stack (ECMA-335, III.3.46)
   abbrev pub EmptyAt : ℕ → ProgramPoint → ℕ → Type 0
-  EmptyAt m at t = (plan : Plan) (old : m < r.methods) (e : plan_at k p m ≡ Some plan) → (r.heights m plan old e).height (moved_to t at) ≡ 0
+  EmptyAt m at t = (plan : Plan) (old : m < r.methods) (e : plan_at k p m ≡ Some plan) → (r.heights m plan old e).height (moved_to t at) ≡ Some 0
 
   abbrev pub CauseLeads : ℕ → ProgramPoint → Cause → Type 0
   CauseLeads m at (Leaving t) = EmptyAt m at t
@@ -277,7 +277,7 @@ module _ (p : Program) (k : Contracts) (ms : List MethodDesc) (g : AddedNumbers)
 
   -- The stack of the topmost frame has the height of its place, that of a waiting one with what will be pushed the height of the place where it goes on.
   abbrev pub HasHeight : Frame → ProgramPoint → ℕ → Type 0
-  HasHeight f at n = (plan : Plan) (old : f.method < r.methods) (e : plan_at k p f.method ≡ Some plan) → is_group f.at ≡ false → length f.local.stack + n ≡ (r.heights f.method plan old e).height at
+  HasHeight f at n = (plan : Plan) (old : f.method < r.methods) (e : plan_at k p f.method ≡ Some plan) → is_group f.at ≡ false → Some (length f.local.stack + n) ≡ (r.heights f.method plan old e).height at
 
   abbrev pub HeightsBelow : Frame → List Frame → Type 0
   HeightsBelow f [] = Unit {0}

@@ -19,7 +19,6 @@ use Rattle.splice_laws.specs.HelperRuns.{HelpersRun, EnterRuns, LeaveRuns}
 use Rattle.splice_laws.specs.Helpers.{HasRuntime, enter_code, leave_code}
 use Rattle.splice_laws.specs.Straight.{ldarg, ldc, add, ret, StandAt}
 use Rattle.splice_laws.specs.EntryCode.{EntryCode, check_code}
-use Rattle.splice_laws.specs.Fails.{NotMade}
 use Rattle.cil_semantics.specs.Checks.{kind_number}
 use Rattle.splice_laws.proofs.ExceptionLaws.{makes_failure}
 use Rattle.splice_laws.proofs.HelperCallLaws.{enter_runs, leave_runs}

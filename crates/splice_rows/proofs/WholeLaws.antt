@@ -56,18 +56,25 @@ use Rattle.splice_rows.proofs.OneRequiresLaws.{each, not_check, not_check_too, o
 
 -- ---- heights
 
+-- a path leads to each place
+abbrev each_height : ProgramPoint → Option ℕ
+each_height at = Some (heights_here at)
+
+a_height : (n m : ℕ) → Some n ≡ Some m → n ≡ m
+a_height n m e = cc e
+
 -- what an instruction of the rest leaves
 abbrev Keeps : ProgramPoint → Instr → Type 0
-Keeps at i = (here : Here) (w : World) (l : LocalState) → is_group at ≡ false → length l.stack ≡ heights_here at → LeavesHeight input heights_here at (act input here i w l)
+Keeps at i = (here : Here) (w : World) (l : LocalState) → is_group at ≡ false → length l.stack ≡ heights_here at → LeavesHeight input each_height at (act input here i w l)
 
 in_clause : (X : Type 0) → true ≡ false → X
 in_clause X e = absurd (cc e)
 
-pushes : (at : ProgramPoint) (n : ℕ) (l : LocalState) (o : Option Cell) → heights_here (Rattle.cil_semantics.specs.Unwind.next_place at) ≡ suc n → length l.stack ≡ n → LeavesHeight input heights_here at (if_some o (λ (c : Cell). goes_with l c.value l.stack))
+pushes : (at : ProgramPoint) (n : ℕ) (l : LocalState) (o : Option Cell) → heights_here (Rattle.cil_semantics.specs.Unwind.next_place at) ≡ suc n → length l.stack ≡ n → LeavesHeight input each_height at (if_some o (λ (c : Cell). goes_with l c.value l.stack))
 pushes at n l None h e = tt
-pushes at n l (Some c) h e = ap suc e ∙ sym h
+pushes at n l (Some c) h e = ap (λ (m : ℕ). Some m) (ap suc e ∙ sym h)
 
-adds : (st : List Value) (l : LocalState) → length st ≡ 2 → LeavesHeight input heights_here (Rest 6) (on_two st (λ x y rest. compute number.Add (paired (numeric x) (numeric y)) (record l { stack = rest })))
+adds : (st : List Value) (l : LocalState) → length st ≡ 2 → LeavesHeight input each_height (Rest 6) (on_two st (λ x y rest. compute number.Add (paired (numeric x) (numeric y)) (record l { stack = rest })))
 adds [] l e = tt
 adds (y ∷ []) l e = tt
 adds (y ∷ x ∷ rest) l e = by_pair (paired (numeric x) (numeric y))
@@ -75,12 +82,12 @@ adds (y ∷ x ∷ rest) l e = by_pair (paired (numeric x) (numeric y))
     one : suc (length rest) ≡ 1
     one = let d : suc (suc (length rest)) ≡ 2 = e in omega (arith, d)
 
-    by_number : (back : Rattle.std.specs.Prelude.ℤ → Value) (n : Number Rattle.std.specs.Prelude.ℤ) → LeavesHeight input heights_here (Rest 6) (number_act back n (record l { stack = rest }))
-    by_number back (Is z) = one
+    by_number : (back : Rattle.std.specs.Prelude.ℤ → Value) (n : Number Rattle.std.specs.Prelude.ℤ) → LeavesHeight input each_height (Rest 6) (number_act back n (record l { stack = rest }))
+    by_number back (Is z) = ap (λ (m : ℕ). Some m) one
     by_number back DividesByZero = tt
     by_number back Overflows = tt
 
-    by_pair : (q : Pair) → LeavesHeight input heights_here (Rest 6) (compute number.Add q (record l { stack = rest }))
+    by_pair : (q : Pair) → LeavesHeight input each_height (Rest 6) (compute number.Add q (record l { stack = rest }))
     by_pair (Both4 a b) = by_number I4 (number.computed number.Add number.size_32 a b)
     by_pair (Both8 a b) = by_number I8 (number.computed number.Add number.size_64 a b)
     by_pair (BothNative a b) = by_number Native (number.computed number.Add number.size_64 a b)
@@ -95,7 +102,7 @@ keeps at i here e =
     (λ h w l n s. in_clause _ n)
     (λ h w l n s. in_clause _ n)
     (λ h w l n s. pushes (Rest 4) 0 l (slice_get l.args 0) refl s)
-    (λ h w l n s. ap suc s)
+    (λ h w l n s. ap (λ (m : ℕ). Some (suc m)) s)
     (λ h w l n s. adds l.stack l s)
     (λ h w l n s. tt)
     at i here e
@@ -142,14 +149,14 @@ pub heights : StackHeights input contracts numbers 0 the_plan
 unfolding everything
 heights =
     record {
-      height = heights_here;
+      height = each_height;
       begins = refl;
-      entry = refl;
+      entry = λ n e. a_height n 0 e;
       rest = refl;
-      keeps = λ at i h w l me here n e s. keeps at i here e h w l n s;
+      keeps = λ at i h w l me here n e s. keeps at i here e h w l n (a_height (length l.stack) (heights_here at) s);
       checks = λ at i kd s rest here n e c len d. absurd (checks at i kd here n e c);
       handlers = λ at r c n here. absurd (omega (arith, c.1));
-      returns = λ f i v me named here n e c r. has_one f.at i here e n c ∙ sym (one_value f v me r);
+      returns = λ f i v me named here n e c r s. a_height (length f.local.stack) (heights_here f.at) s ∙ has_one f.at i here e n c ∙ sym (one_value f v me r);
     }
 
 -- ---- the whole program

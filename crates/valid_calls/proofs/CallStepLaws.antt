@@ -1,5 +1,5 @@
 -- A step at call or newobj.
-use Rattle.std.proofs.Common.{◌≡◌, ℕ, zero, suc, ◌<◌, Bool, true, false, List, [], ◌∷◌, ◌++◌, length, Option, Some, None, refl, sym, subst, arith}
+use Rattle.std.proofs.Common.{◌≡◌, ℕ, zero, suc, ◌<◌, Bool, true, false, List, [], ◌∷◌, ◌++◌, length, Option, Some, None, refl, sym, subst}
 use Rattle.std.specs.Prelude.{if◌then◌else◌, nat_le, take, drop, reverse}
 use Rattle.std.proofs.lemmas.Grind.{reverse_onto}
 use Rattle.cil_model.specs.declared.body.Instr.{Instr}
@@ -26,6 +26,7 @@ use Rattle.splice_facts.specs.Layout.{IsHere, fetch}
 use Rattle.splice_facts.specs.WellFormed.{Bounds, WellFormedValues}
 use Rattle.splice_facts.specs.Input.{LeavesHeight, result_count, is_group}
 use Rattle.splice_facts.specs.Related.{Rewritten, NamesInput, HasHeight, bounds}
+use Rattle.simulation_valid.proofs.HeightLaws.{but_none}
 use Rattle.simulation_valid.specs.Keeping.{StaysValid, ValidPlaces}
 use Rattle.simulation_valid.specs.Steps.{RunsHere}
 use Rattle.simulation_valid.proofs.MoveValidLaws.{relocal}
@@ -124,7 +125,7 @@ module _ (p : Program) (k : Contracts) (ms : List MethodDesc) (g : AddedNumbers)
     own = r.names f.method f.at i (here_of f fs) a.top.frame.stands.old refl a.top.as_named.2 a.top.as_named.3 a.here found
 
     heights : HasHeights f (act p (here_of f fs) i w f.local)
-    heights plan old e outer = (r.heights f.method plan old e).keeps f.at i (here_of f fs) w f.local refl (subst (λ o. IsHere o f.at) e a.here) outer (subst (λ o. fetch p k g o f.method f.at ≡ Some i) e found) (omega (arith, height plan old e outer))
+    heights plan old e outer = (r.heights f.method plan old e).keeps f.at i (here_of f fs) w f.local refl (subst (λ o. IsHere o f.at) e a.here) outer (subst (λ o. fetch p k g o f.method f.at ≡ Some i) e found) (but_none (length f.local.stack) _ (height plan old e outer))
 
     pub call_stays : class_of i.op ≡ class.Call → NamesGiving p (meaning_here p (here_of f fs) i) → Stays (run_plain p k g i f fs w)
     unfolding act act_of_class
