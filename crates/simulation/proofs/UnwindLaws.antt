@@ -195,7 +195,7 @@ module _ (p : Program) (k : Contracts) (ms : List MethodDesc) (g : AddedNumbers)
   nowhere_plain : (h : Frame) (l : Local) (ex : List Cell) (q0 : ℕ) (hs0 hs' : List Handling) (q' : ℕ) (b : Continuation) (fs' : List Frame) (w : World) (ss : List Statics) (x : ℕ) → land p' no_contracts NoHandler (tw h l ex q0 hs0 b) hs' q' fs' (beside ss w) x (λ s v y. unwind p' no_contracts s fs' v y) ≡ out_of h b fs' w ss x
   nowhere_plain h l ex q0 hs0 hs' q' b fs' w ss x = ap (λ o. no_handler_left p' o (tw h l ex q0 hs0 b) (Rest q0) fs' (beside ss w) x (λ s v y. unwind p' no_contracts s fs' v y)) (no_plan p' h.method)
 
-  lows : (m : ℕ) (at : ProgramPoint) (hs hs' : List Handling) → HandlingPairs (plan m) (mk m) (rows m) at hs hs' → Rattle.splice_facts.specs.Spliced.AreLow p k p' g r.types r.depths m hs'
+  pub lows : (m : ℕ) (at : ProgramPoint) (hs hs' : List Handling) → HandlingPairs (plan m) (mk m) (rows m) at hs hs' → Rattle.splice_facts.specs.Spliced.AreLow p k p' g r.types r.depths m hs'
   lows m at [] [] x = tt
   lows m at [] (h' ∷ hs') x = absurd x
   lows m at (h ∷ hs) [] x = absurd x

@@ -185,17 +185,17 @@ module _ (p : Program) (k : Contracts) (ms : List MethodDesc) (g : AddedNumbers)
       by_next ih (Running s1) = ih s1
       by_next ih (Ended o w) = refl
 
-  told_so : (j : ℕ) (T : List Item) (y : Next) → and_then (goes_after T y) (runs (plain_step p') j) ≡ goes_after T (and_then y (runs (plain_step p') j))
+  pub told_so : (j : ℕ) (T : List Item) (y : Next) → and_then (goes_after T y) (runs (plain_step p') j) ≡ goes_after T (and_then y (runs (plain_step p') j))
   told_so j T (Running s) = runs_told j T s
   told_so j T (Ended o w) = refl
 
-  match_told : (T : List Item) (x y : Next) → Match (Arriving.E p k ms g r) (Arriving.R p k ms g r) x y → Match (Arriving.E p k ms g r) (Arriving.R p k ms g r) (goes_after T x) (goes_after T y)
+  pub match_told : (T : List Item) (x y : Next) → Match (Arriving.E p k ms g r) (Arriving.R p k ms g r) x y → Match (Arriving.E p k ms g r) (Arriving.R p k ms g r) (goes_after T x) (goes_after T y)
   match_told T (Running s) (Running s') m = record { frames = m.frames; statics = m.statics; alike = record { statics = (m.alike).statics; depth = (m.alike).depth; bare = (m.alike).bare; failures = (m.alike).failures }; world = ap (recorded_after T) m.world }
   match_told T (Ended o w) (Ended o' w') m = (m.0, record { heap = (m.1).heap; statics = (m.1).statics; trace = ap (λ t. T ++ t) ((m.1).trace) })
   match_told T (Running s) (Ended o w) m = absurd m
   match_told T (Ended o w) (Running s) m = absurd m
 
-  weight_told : (T : List Item) (x : Next) → weight (Arriving.f p k ms g r) (goes_after T x) ≡ weight (Arriving.f p k ms g r) x
+  pub weight_told : (T : List Item) (x : Next) → weight (Arriving.f p k ms g r) (goes_after T x) ≡ weight (Arriving.f p k ms g r) x
   weight_told T (Running s) = refl
   weight_told T (Ended o w) = refl
 

@@ -1,5 +1,5 @@
 -- What the rules give of a body of the input alone: the splice takes these facts and doesn't make them.
-use Rattle.std.specs.Prelude.{◌≡◌, ℕ, ◌+◌, ◌<◌, Bool, true, false, if◌then◌else◌, List, [], ◌∷◌, ◌++◌, length, slice_get, Option, Some, None, IsTrue}
+use Rattle.std.specs.Prelude.{◌≡◌, ℕ, ◌+◌, ◌<◌, Bool, true, false, if◌then◌else◌, List, [], ◌∷◌, ◌++◌, length, slice_get, Option, Some, None, IsTrue, is_some}
 use Rattle.cil_base.specs.declared.token.Token.{Token}
 use Rattle.cil_model.specs.declared.ty.Ty.{Prim}
 use Rattle.cil_model.specs.declared.value.Value.{Value}
@@ -19,13 +19,14 @@ use Rattle.il_opcodes.specs.declared.class.Class.TheVariants as class
 use Rattle.il_opcodes.specs.declared.class.Class.{Class}
 use Rattle.il_opcodes.specs.Opcodes.{class_of}
 use Rattle.cil_semantics.specs.Tokens.{Here, local_tys}
-use Rattle.cil_semantics.specs.Contracted.{Piece, Plan}
+use Rattle.cil_semantics.specs.Contracted.{Piece, Plan, olds_of}
+use Rattle.cil_model.specs.declared.contract.Old.{Old}
 use Rattle.cil_semantics.specs.Unwind.{body_of, piece_at, moved_to, next_place, Found, NoHandler, CatchHandler, CleanupHandler, search_from, left_from}
 use Rattle.cil_semantics.specs.Frames.{clause_tys, first_place}
 use Rattle.cil_semantics.specs.Returns.{result_type, returned}
 use Rattle.cil_semantics.specs.ContractCalls.{contract_call, has_message}
 use Rattle.cil_semantics.specs.declared.contract_call.ContractCall.{ContractCall}
-use Rattle.cil_semantics.specs.declared.contract_call.ContractCall.TheVariants.{GivesResult, ReadsArgument, ChecksHere}
+use Rattle.cil_semantics.specs.declared.contract_call.ContractCall.TheVariants.{GivesResult, ReadsArgument, TakesOld, ChecksHere}
 use Rattle.cil_semantics.specs.Checks.{AddedNumbers, dropped, recalled}
 use Rattle.splice_facts.specs.Grown.{NamesLocals}
 use Rattle.splice_facts.specs.Layout.{fetch, stands_in, IsHere, CanArrive, LeadsOn}
@@ -81,6 +82,9 @@ module _ (p : Program) (k : Contracts) (g : AddedNumbers) where
     pub no_such : (gr : Group) (j q : ℕ) (i : Instr) → IsHere (Some plan) (InGroup gr j q) → fetch p k g (Some plan) me (InGroup gr j q) ≡ Some i → never_in_clause (class_of i.op) ≡ false
     pub has_result : (gr : Group) (j q : ℕ) (x : Piece) (i : Instr) (f : Frame) (fs : List Frame) → f.method ≡ me → f.at ≡ InGroup gr j q → IsHere (Some plan) (InGroup gr j q) → piece_at (Some plan) gr j ≡ Some x → slice_get x.clause.instrs q ≡ Some i → contract_call p i ≡ GivesResult → (gr ≡ group.Exit) × (returned p f [] ≡ None)
     pub goes_on : (gr : Group) (j q : ℕ) (x : Piece) (i : Instr) → IsHere (Some plan) (InGroup gr j q) → piece_at (Some plan) gr j ≡ Some x → recalled x q ≡ None → slice_get x.clause.instrs q ≡ Some i → is_followed (contract_call p i) ≡ true → IsHere (Some plan) (InGroup gr j (q + 1))
+    -- an old value is taken in the piece that captures it alone, and what a clause recalls is captured
+    pub takes : (gr : Group) (j q : ℕ) (x : Piece) (i : Instr) → IsHere (Some plan) (InGroup gr j q) → piece_at (Some plan) gr j ≡ Some x → recalled x q ≡ None → slice_get x.clause.instrs q ≡ Some i → contract_call p i ≡ TakesOld → IsTrue (is_some x.captures)
+    pub olds : (gr : Group) (j q : ℕ) (x : Piece) (o : ℕ × Old) → IsHere (Some plan) (InGroup gr j q) → piece_at (Some plan) gr j ≡ Some x → recalled x q ≡ Some o → x.first_captured + o.0 < length (olds_of plan.clauses)
 
   abbrev pub PiecesIf : ℕ → Option Plan → Type 0
   PiecesIf me None = Unit {0}

@@ -63,6 +63,12 @@ each P a b c d e f g h (Rest (suc (suc (suc (suc (suc (suc (suc (suc q))))))))) 
 
 -- ---- what the plan gives
 
+not_taken : NoContractCall ≡ TakesOld → ⊥
+not_taken e = cc e
+
+not_taken_too : EndsClause kind.Requires ≡ TakesOld → ⊥
+not_taken_too e = cc e
+
 not_result : NoContractCall ≡ GivesResult → ⊥
 not_result e = cc e
 
@@ -296,5 +302,7 @@ facts =
         no_such = λ gr j q i here e. never (InGroup gr j q) i here e;
         has_result = λ gr j q x i f fs m a h e s c. absurd (in_entry (λ g1 j1 z. slice_get z.clause.instrs q ≡ Some i → ⊥) (λ s1. never_in_condition GivesResult not_result not_result_too q i s1 c) gr j x e s);
         goes_on = λ gr j q x i h e n s c. in_entry (λ g1 j1 z. slice_get z.clause.instrs q ≡ Some i → IsHere (Some the_plan) (InGroup g1 j1 (q + 1))) (λ s1. absurd (never_followed q i s1 c)) gr j x e s;
+        takes = λ gr j q x i h e n s c. absurd (in_entry (λ g1 j1 z. slice_get z.clause.instrs q ≡ Some i → ⊥) (λ s1. never_in_condition TakesOld not_taken not_taken_too q i s1 c) gr j x e s);
+        olds = λ gr j q x o h e d. absurd (in_entry (λ g1 j1 z. Rattle.cil_semantics.specs.Checks.recalled z q ≡ Some o → ⊥) (λ s. let z : None ≡ Some o = s in cc z) gr j x e d);
       };
     }

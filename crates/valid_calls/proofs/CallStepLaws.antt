@@ -42,17 +42,17 @@ module _ (b : Bounds) where
   joined_values [] ys h k = k
   joined_values (x ∷ xs) ys h k = (h.0, joined_values xs ys h.1 k)
 
-  reversed : (xs : List Value) → WellFormedValues b xs → WellFormedValues b (reverse xs)
+  pub reversed : (xs : List Value) → WellFormedValues b xs → WellFormedValues b (reverse xs)
   reversed [] h = tt
   reversed (x ∷ xs) h = subst (WellFormedValues b) (sym (reverse_onto xs x [])) (joined_values (reverse xs) (x ∷ []) (reversed xs h.1) (h.0, tt))
 
-  taken_values : (n : ℕ) (xs : List Value) → WellFormedValues b xs → WellFormedValues b (take n xs)
+  pub taken_values : (n : ℕ) (xs : List Value) → WellFormedValues b xs → WellFormedValues b (take n xs)
   taken_values zero [] h = tt
   taken_values zero (x ∷ xs) h = tt
   taken_values (suc n) [] h = tt
   taken_values (suc n) (x ∷ xs) h = (h.0, taken_values n xs h.1)
 
-  dropped_values : (n : ℕ) (xs : List Value) → WellFormedValues b xs → WellFormedValues b (drop n xs)
+  pub dropped_values : (n : ℕ) (xs : List Value) → WellFormedValues b xs → WellFormedValues b (drop n xs)
   dropped_values zero [] h = tt
   dropped_values zero (x ∷ xs) h = h
   dropped_values (suc n) [] h = tt

@@ -1,4 +1,4 @@
 mod MemberLaws
 mod NewValidLaws
-mod CallStepLaws
+pub mod CallStepLaws
 mod DispatchLaws

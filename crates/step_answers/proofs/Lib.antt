@@ -1,0 +1,4 @@
+pub mod LeadLaws
+pub mod SiteLaws
+pub mod CopyLaws
+pub mod JoinLaws
