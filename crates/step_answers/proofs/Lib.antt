@@ -2,3 +2,4 @@ pub mod LeadLaws
 pub mod SiteLaws
 pub mod CopyLaws
 pub mod JoinLaws
+pub mod RunLaws

@@ -1,5 +1,5 @@
 -- Where an instruction leads: on behind it, or by a jump or `leave` to a target of its operand; only a call calls, and only `ret` returns (ECMA-335, Partition III).
-use Rattle.std.specs.Prelude.{◌≡◌, false, Option}
+use Rattle.std.specs.Prelude.{◌≡◌, ℕ, false, Option}
 use Rattle.cil_model.specs.declared.body.Instr.{Instr}
 use Rattle.cil_model.specs.declared.program.Program.{Program}
 use Rattle.il_opcodes.specs.declared.class.Class.{Class}
@@ -10,10 +10,10 @@ use Rattle.cil_semantics.specs.declared.state.Local.{Local}
 use Rattle.cil_semantics.specs.declared.state.ProgramPoint.{ProgramPoint}
 use Rattle.cil_semantics.specs.Tokens.{Here}
 use Rattle.cil_semantics.specs.Contracted.{Plan}
-use Rattle.cil_semantics.specs.Unwind.{moved_to}
+use Rattle.cil_semantics.specs.Unwind.{moved_to, next_place}
 use Rattle.cil_semantics.specs.Acts.{Act, GoOn, Load, Store, Copy, UseStatic, Jump, Leave, Return, CallMember, CallVirtual, NewObject, LoadVirtualFunction}
 use Rattle.cil_semantics.specs.Instructions.{act}
-use Rattle.splice_facts.specs.Layout.{CanArrive, LeadsOn, never_falls}
+use Rattle.splice_facts.specs.Layout.{CanArrive, LeadsOn, Onward, never_falls}
 
 -- a class whose instructions call nothing and don't return
 abbrev pub CallsNothing : Class → Type 0
@@ -44,3 +44,7 @@ module _ (X : Type 0) (plan : Option Plan) (at : ProgramPoint) where
   -- Where targets are places and a run goes on behind the instruction, an act leads to one of them.
   abbrev pub ActsLedBy : Type 0
   ActsLedBy = (p : Program) (here : Here) (i : Instr) (w : World) (l : Local) → CallsNothing (class_of i.op) → (never_falls (class_of i.op) ≡ false → X) → LeadsOn plan at i.operand → LedBy (act p here i w l)
+
+-- it goes on behind its instruction
+abbrev pub InstructionsLeadOn : Type 0
+InstructionsLeadOn = (plan : Option Plan) (places : ProgramPoint → ℕ) (at : ProgramPoint) → ActsLedBy (Onward plan places at (next_place at)) plan at

@@ -1,26 +1,28 @@
 //! Each step of the run of an input with its contracts is answered by the plain run of the written program.
 #![tactic(auto)]
 
-ghost use Rattle.std.specs.Prelude.{Option, ℕ, List};
+ghost use Rattle.std.specs.Prelude.{List};
 ghost use Rattle.cil_model.specs.declared.contract.Contracts.{Contracts};
 ghost use Rattle.cil_model.specs.declared.program.MethodDesc.{MethodDesc};
 ghost use Rattle.cil_model.specs.declared.program.Program.{Program};
 ghost use Rattle.cil_semantics.specs.Checks.{AddedNumbers};
-ghost use Rattle.cil_semantics.specs.Contracted.{Plan};
-ghost use Rattle.cil_semantics.specs.Unwind.{next_place};
-ghost use Rattle.cil_semantics.specs.declared.state.ProgramPoint.{ProgramPoint};
-ghost use Rattle.splice_facts.specs.Layout.{Onward};
 ghost use Rattle.splice_facts.specs.Related.{Rewritten};
 ghost use Rattle.step_answers.specs.Answering.{StepsAnswered};
-ghost use Rattle.step_answers.specs.Leading.{ActsLedBy};
+ghost use Rattle.step_answers.specs.Leading.{InstructionsLeadOn};
+ghost use Rattle.step_answers.specs.Runs.{RunsAnswered};
 
 /// An instruction that calls nothing and doesn't return leads on, or to a target of its operand.
 pub fn instructions_lead_on()
-    ensures { (plan : Option Plan) (places : ProgramPoint → ℕ) (at : ProgramPoint) → ActsLedBy (Onward plan places at (next_place at)) plan at }
+    ensures { InstructionsLeadOn }
 {}
 
 /// From related states, of which the first is sound, each step of the run with contracts is answered, wherever
 /// its topmost frame stands and whatever it does there.
 pub fn each_step_is_answered()
     ensures { (p : Program) (k : Contracts) (ms : List MethodDesc) (g : AddedNumbers) (r : Rewritten p k ms g) → StepsAnswered p k ms g r }
+{}
+
+/// A whole run of an entry is answered, where each of its states has what no law gives yet.
+pub fn whole_runs_are_answered()
+    ensures { (p : Program) (k : Contracts) (ms : List MethodDesc) (g : AddedNumbers) (r : Rewritten p k ms g) → RunsAnswered p k ms g r }
 {}

@@ -1,4 +1,4 @@
 mod MemberLaws
 mod NewValidLaws
 pub mod CallStepLaws
-mod DispatchLaws
+pub mod DispatchLaws

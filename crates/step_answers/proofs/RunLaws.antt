@@ -1,0 +1,111 @@
+-- From single steps to whole runs.
+use Rattle.std.proofs.Common.{◌≡◌, ℕ, zero, suc, ◌+◌, ◌≤◌, List, refl, sym, ap, ◌∙◌, subst, arith}
+use Rattle.cil_model.specs.declared.contract.Contracts.{Contracts}
+use Rattle.cil_model.specs.declared.program.Program.{Program}
+use Rattle.cil_model.specs.declared.program.MethodDesc.{MethodDesc}
+use Rattle.cil_model.specs.NoContracts.{no_contracts}
+use Rattle.cil_semantics.specs.declared.state.Frame.{Frame}
+use Rattle.cil_semantics.specs.declared.state.World.{World}
+use Rattle.cil_semantics.specs.State.{State, Next, Running, Ended}
+use Rattle.cil_semantics.specs.Checks.{AddedNumbers}
+use Rattle.cil_semantics.specs.Machine.{step, runs, start, and_then, unused_numbers}
+use Rattle.machine_laws.specs.Same.{bound_of, plain_step}
+use Rattle.machine_laws.specs.Simulation.{Lifted, Simulates, Match, weight}
+use Rattle.machine_laws.proofs.LiftLaws.{lifts}
+use Rattle.machine_laws.proofs.GrowthLaws.{step_grows}
+use Rattle.splice_facts.specs.Bodies.{with_methods}
+use Rattle.splice_facts.specs.Grown.{beside}
+use Rattle.splice_facts.specs.Related.{Rewritten, AlikeWorlds, AnswersIn, Related, Frames, laid_by, per_frame}
+use Rattle.splice_facts.specs.Spliced.{cost}
+use Rattle.simulation_steps.specs.Steps.{BesideIn}
+use Rattle.simulation_valid.specs.Keeping.{Sound, StaysValid}
+use Rattle.simulation_valid.proofs.StartLaws.{starts_alike, starts_valid}
+use Rattle.valid_calls.proofs.DispatchLaws.{steps_stay}
+use Rattle.step_answers.specs.Runs.{AskedNow, AskedAlong, RunsAnswered}
+use Rattle.step_answers.proofs.SiteLaws.{runs_here}
+use Rattle.step_answers.proofs.JoinLaws.{steps_answered}
+
+module _ (p : Program) (k : Contracts) (ms : List MethodDesc) (g : AddedNumbers) (r : Rewritten p k ms g) where
+  abbrev p' : Program
+  p' = with_methods p ms
+
+  abbrev E : World → World → Type 0
+  E = AlikeWorlds r.types
+
+  abbrev R : State → State → Type 0
+  R = Related p k ms g r
+
+  abbrev laid : State → ℕ
+  laid = laid_by p k ms g r
+
+  -- the states of both runs, with what is asked of the first run from here on
+  record Going (s s' : State) : Type 0 where
+    pub related : R s s'
+    pub sound : Sound p k ms g r s
+    pub asked : AskedAlong p k ms g r s
+
+  -- one step
+  record Stepped (s s' : State) : Type 0 where
+    pub answer : AnswersIn p k ms g r (bound_of k p + laid s) (step p k g s) (Running s')
+    pub sound : StaysValid p k ms g r (step p k g s)
+
+  from_frames : (xs ys : List Frame) (w : World) (ss : _) → Frames p k ms g r xs ys → BesideIn p k ms g r w ss → Sound p k ms g r (record { frames = xs; world = w }) → AskedNow p k ms g r (record { frames = xs; world = w }) → Stepped (record { frames = xs; world = w }) (record { frames = ys; world = beside ss w })
+  from_frames xs ys w ss (Frames.top f f' fs fs' pair here under) bes sound asked =
+      record {
+        answer = steps_answered p k ms g r f f' fs fs' w ss (Frames.top f f' fs fs' pair here under) bes sound (asked.objects f fs refl);
+        sound = steps_stay p k ms g r f fs w (runs_here p k ms g r f f' fs fs' w here under sound) ((sound.valid.heights).0) (asked.steps f fs refl);
+      }
+
+  stepped : (s s' : State) → Going s s' → Stepped s s'
+  stepped s s' h =
+      let x = from_frames s.frames s'.frames s.world (h.related).statics (h.related).frames (h.related).alike h.sound (h.asked 0 s refl) in
+      subst (λ w. Stepped s (record { frames = s'.frames; world = w })) (sym (h.related).world) x
+
+  -- what a step comes to goes on so
+  goes_on : (s s' : State) → Going s s' → (x y : Next) → step p k g s ≡ x → Match E R x y → StaysValid p k ms g r x → Match E Going x y
+  goes_on s s' h (Running u) (Running u') e m v =
+      record { related = m; sound = v; asked = λ n a q. h.asked (suc n) a (ap (λ z. and_then z (runs (step p k g) n)) e ∙ q) }
+  goes_on s s' h (Ended o w) (Ended o' w') e m v = m
+  goes_on s s' h (Running u) (Ended o' w') e m v = absurd m
+  goes_on s s' h (Ended o w) (Running u') e m v = absurd m
+
+  abbrev Answer : State → State → Type 0
+  Answer s s' = (j : ℕ) × (suc j + weight laid (step p k g s) ≤ bound_of k p + laid s) × Match E Going (step p k g s) (runs (plain_step p') (suc j) s')
+
+  answers : (s s' : State) → Going s s' → Answer s s'
+  answers s s' h = let x = stepped s s' h in by_steps ((x.answer).reaches).steps (x.answer).moves ((x.answer).reaches).most ((x.answer).reaches).same x.sound
+    where
+      by_steps : (j : ℕ) → 1 ≤ j → j + weight laid (step p k g s) ≤ bound_of k p + laid s → Match E R (step p k g s) (runs (plain_step p') j s') → StaysValid p k ms g r (step p k g s) → Answer s s'
+      by_steps zero some most same v = absurd (omega (arith, some))
+      by_steps (suc j) some most same v = (j, most, goes_on s s' h (step p k g s) (runs (plain_step p') (suc j) s') refl same v)
+
+  simulates : Simulates (step p k g) (plain_step p') E Going laid (bound_of k p)
+  simulates =
+      record {
+        same_trace = λ s s' h. sym (ap (λ (w : World). w.trace) (h.related).world);
+        same_recorded = λ w w' e. e.trace;
+        answer = answers;
+        grows = step_grows p' no_contracts (unused_numbers p');
+      }
+
+  -- ---- from an entry
+
+  begun : (s t : State) (j : ℕ) → AskedAlong p k ms g r s → Sound p k ms g r s → j + laid s ≤ bound_of k p → Match E R (Running s) (runs (plain_step p') j t) → Lifted (step p k g) (plain_step p') E (bound_of k p) s t
+  begun s t j asked sound le same = by_next (runs (plain_step p') j t) refl same
+    where
+      by_next : (y : Next) → runs (plain_step p') j t ≡ y → Match E R (Running s) y → Lifted (step p k g) (plain_step p') E (bound_of k p) s t
+      by_next (Running s') e m = lifts (step p k g) (plain_step p') E Going laid (bound_of k p) simulates j s s' t (record { related = m; sound = sound; asked = asked }) e le
+      by_next (Ended o w) e m = absurd m
+
+  pub runs_answered : RunsAnswered p k ms g r
+  runs_answered m args rs s old entry starts asked =
+      let a = starts_alike p k ms g r m args rs old in
+      by_start (start p' no_contracts m args rs) refl a.steps
+      (subst (λ z. a.steps + weight laid z ≤ cost k p + per_frame p k ms g r 2) starts a.most)
+      (subst (λ z. Match E R z (and_then (start p' no_contracts m args rs) (runs (plain_step p') a.steps))) starts a.same)
+      (subst (StaysValid p k ms g r) starts (starts_valid p k ms g r m args rs old entry))
+    where
+      by_start : (y : Next) → start p' no_contracts m args rs ≡ y → (j : ℕ) → j + laid s ≤ cost k p + per_frame p k ms g r 2 → Match E R (Running s) (and_then (start p' no_contracts m args rs) (runs (plain_step p') j)) → Sound p k ms g r s
+          → (t : State) × (start p' no_contracts m args rs ≡ Running t) × Lifted (step p k g) (plain_step p') E (bound_of k p) s t
+      by_start (Running t) e j le same sound = (t, e, begun s t j asked sound (omega (arith, le)) (subst (λ y. Match E R (Running s) (and_then y (runs (plain_step p') j))) e same))
+      by_start (Ended o w) e j le same sound = absurd (subst (λ y. Match E R (Running s) (and_then y (runs (plain_step p') j))) e same)

@@ -1,0 +1,33 @@
+-- Whole runs of an entry: where each state of the run with contracts has what no law gives yet, the plain run of the written program ends as it does and tells the same.
+use Rattle.std.specs.Prelude.{◌≡◌, ℕ, ◌<◌, List, ◌∷◌}
+use Rattle.cil_model.specs.declared.value.Value.{Value}
+use Rattle.cil_model.specs.declared.run.Reply.{Reply}
+use Rattle.cil_model.specs.declared.contract.Contracts.{Contracts}
+use Rattle.cil_model.specs.declared.program.Program.{Program}
+use Rattle.cil_model.specs.declared.program.MethodDesc.{MethodDesc}
+use Rattle.cil_model.specs.NoContracts.{no_contracts}
+use Rattle.cil_semantics.specs.declared.state.Frame.{Frame}
+use Rattle.cil_semantics.specs.State.{State, Running, unrecorded}
+use Rattle.cil_semantics.specs.Checks.{AddedNumbers}
+use Rattle.cil_semantics.specs.Machine.{step, runs, start}
+use Rattle.machine_laws.specs.Same.{IsEntry, bound_of, plain_step}
+use Rattle.machine_laws.specs.Simulation.{Lifted}
+use Rattle.splice_facts.specs.Related.{Rewritten, AlikeWorlds, written}
+use Rattle.valid_calls.specs.Steps.{IsAsked}
+use Rattle.step_answers.specs.Answering.{ObjectsThere}
+
+module _ (p : Program) (k : Contracts) (ms : List MethodDesc) (g : AddedNumbers) (r : Rewritten p k ms g) where
+  -- what is asked of a state besides that it is sound
+  pub record AskedNow (s : State) : Type 0 where
+    pub objects : (f : Frame) (fs : List Frame) → s.frames ≡ f ∷ fs → ObjectsThere p k ms g r f fs s.world
+    pub steps : (f : Frame) (fs : List Frame) → s.frames ≡ f ∷ fs → IsAsked p k ms g r f fs (unrecorded s.world)
+
+  -- and of each that a run comes to from it
+  abbrev pub AskedAlong : State → Type 0
+  AskedAlong s = (n : ℕ) (u : State) → runs (step p k g) n s ≡ Running u → AskedNow u
+
+  -- A run that begins is answered whole: both end alike or go on, and what one tells the other tells too, within the bound on steps.
+  abbrev pub RunsAnswered : Type 0
+  RunsAnswered =
+      (m : ℕ) (args : List Value) (rs : List Reply) (s : State) → m < r.methods → IsEntry p m args → start p k m args rs ≡ Running s → AskedAlong s
+      → (t : State) × (start (written p k ms g r) no_contracts m args rs ≡ Running t) × Lifted (step p k g) (plain_step (written p k ms g r)) (AlikeWorlds r.types) (bound_of k p) s t
