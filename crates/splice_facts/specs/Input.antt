@@ -37,6 +37,9 @@ use Rattle.cil_semantics.specs.declared.state.Access.{Access}
 use Rattle.cil_semantics.specs.declared.state.Access.TheVariants.{Write}
 use Rattle.cil_semantics.specs.Lookups.{method_of}
 use Rattle.cil_semantics.specs.Places.{storage, is_void}
+use Rattle.cil_model.specs.declared.program.Meaning.{Meaning}
+use Rattle.cil_model.specs.declared.program.Meaning.TheVariants.{OfMethod}
+use Rattle.cil_semantics.specs.Calls.{CoreMember, Constructor, NotCore, core_of}
 use Rattle.cil_semantics.specs.Instructions.{act}
 use Rattle.cil_semantics.specs.Acts.{Act, GoOn, Jump, Leave, Load, Store, Copy, UseStatic, CallMember, CallVirtual, NewObject, LoadVirtualFunction}
 
@@ -104,6 +107,16 @@ module _ (p : Program) (k : Contracts) (g : AddedNumbers) where
 -- how many values a call of a method pushes
 abbrev pub result_count : Program → ℕ → ℕ
 result_count p m = if is_void (storage p (method_of p m).result) then 0 else 1
+
+-- a core member is described with the result that it has: a constructor with none, each other one with a value (ECMA-335, Partition IV)
+abbrev pub GivesAsDescribed : CoreMember → ℕ → Type 0
+GivesAsDescribed Constructor n = n ≡ 0
+GivesAsDescribed NotCore n = Unit {0}
+GivesAsDescribed c n = n ≡ 1
+
+abbrev pub NamesGiving : Program → Option Meaning → Type 0
+NamesGiving p (Some (OfMethod owner m args)) = GivesAsDescribed (core_of p owner m) (result_count p m)
+NamesGiving p m = Unit {0}
 
 -- With its type arguments a frame's method returns a value just where it does without: no type argument is void (ECMA-335, II.23.2.14).
 abbrev pub ReturnsAsNamed : Program → Frame → Type 0

@@ -41,9 +41,10 @@ use Rattle.cil_semantics.specs.Tokens.{Here, ref_type, meaning_here}
 use Rattle.cil_semantics.specs.Types.{under}
 use Rattle.cil_semantics.specs.Unwind.{body_of, place_in, plan_at, piece_at}
 use Rattle.machine_rows.specs.Everything.{everything}
+use Rattle.cil_semantics.specs.Calls.{core_of}
 use Rattle.splice_facts.specs.Bodies.{ButBody, SameMethods}
 use Rattle.splice_facts.specs.WellFormed.{NoneVoid}
-use Rattle.splice_facts.specs.Input.{InputFacts, StackHeights, LeavesHeight, is_group, top_of}
+use Rattle.splice_facts.specs.Input.{InputFacts, StackHeights, LeavesHeight, is_group, top_of, NamesGiving}
 use Rattle.splice_facts.specs.Layout.{IsHere, fetch}
 use Rattle.splice_facts.specs.Related.{NamesInput, Rewritten, IsOwnClass}
 use Rattle.splice_facts.specs.Spliced.{Spliced}
@@ -322,6 +323,18 @@ names (suc zero) (InGroup gr j q) i here l me a b h e = absurd h
 names (suc zero) (Rest q) i here l me a b h e = let z : None ≡ Some i = e in absurd (cc z)
 names (suc (suc m)) at i here l me a b h e = absurd (omega (arith, l))
 
+giving : (at : ProgramPoint) (i : Instr) → IsHere (Some the_plan) at → fetch input contracts numbers (Some the_plan) 0 at ≡ Some i → (h : Here) → NamesGiving input (meaning_here input h i)
+unfolding everything core_of
+giving at i here e = each (λ at1 j. (h : Here) → NamesGiving input (meaning_here input h j)) (λ h. tt) (λ h. tt) (λ h. tt) (λ h. tt) (λ h. tt) (λ h. tt) (λ h. tt) (λ h. tt) at i here e
+
+gives : (m : ℕ) (at : ProgramPoint) (i : Instr) (here : Here) → m < 2 → here.method ≡ m → IsHere (plan_at contracts input m) at → fetch input contracts numbers (plan_at contracts input m) m at ≡ Some i → NamesGiving input (meaning_here input here i)
+unfolding everything
+gives zero at i here l me h e = giving at i h e here
+gives (suc zero) (LeadIn q) i here l me h e = absurd h
+gives (suc zero) (InGroup gr j q) i here l me h e = absurd h
+gives (suc zero) (Rest q) i here l me h e = let z : None ≡ Some i = e in absurd (cc z)
+gives (suc (suc m)) at i here l me h e = absurd (omega (arith, l))
+
 bases : (k : ℕ) (args : List Ty) → Rooted 13 input (maybe object_ty (under args []) (type_of input k).base)
 unfolding everything
 bases = each_at (λ (d : TypeDesc). (args : List Ty) → Rooted 13 input (maybe object_ty (under args []) d.base)) input.types contract_exception (at_top, (at_top, (at_top, (at_top, (at_top, (at_top, tt)))))) (λ args. exception 12 input)
@@ -349,6 +362,7 @@ whole =
       guard = let e : 4 ≤ 100 = omega arith in e;
       rooted = rooted;
       names = names;
+      gives = λ m at i here l me h e c. gives m at i here l me h e;
       owned = owned;
       exceptions = no_exceptions;
       members = members;

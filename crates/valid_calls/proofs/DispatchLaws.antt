@@ -94,7 +94,7 @@ module _ (p : Program) (k : Contracts) (ms : List MethodDesc) (g : AddedNumbers)
     runs_valid i found = by_class (class_of i.op) refl
       where
         by_class : (c : Class) → class_of i.op ≡ c → Stays (run_plain p k g i f fs w)
-        by_class class.Call e = call_stays p k ms g r i f fs w a height found e (asked.gives i found e)
+        by_class class.Call e = call_stays p k ms g r i f fs w a height found e (r.gives f.method f.at i (here_of f fs) a.top.frame.stands.old refl a.here found e)
         by_class class.NewObject e = new_stays p k ms g r i f fs w a height found e
         by_class class.CallVirtual e = asked.virtual i found e
         by_class class.LoadVirtualFunction e = asked.functions i found e

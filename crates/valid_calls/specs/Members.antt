@@ -1,8 +1,6 @@
 -- Calls of members and new objects in the run with contracts: what is known where they begin, and what then stays valid.
-use Rattle.std.specs.Prelude.{◌≡◌, ℕ, suc, ◌<◌, ◌≤◌, List, Option, Some, IsTrue}
+use Rattle.std.specs.Prelude.{◌≡◌, ℕ, suc, ◌<◌, ◌≤◌, List, Some, IsTrue}
 use Rattle.cil_model.specs.declared.body.Instr.{Instr}
-use Rattle.cil_model.specs.declared.program.Meaning.{Meaning}
-use Rattle.cil_model.specs.declared.program.Meaning.TheVariants.{OfMethod}
 use Rattle.il_opcodes.specs.Opcodes.{class_of}
 use Rattle.il_opcodes.specs.declared.class.Class.TheVariants as class
 use Rattle.cil_semantics.specs.Tokens.{meaning_here}
@@ -18,24 +16,15 @@ use Rattle.cil_semantics.specs.Lookups.{args_of}
 use Rattle.cil_semantics.specs.declared.state.World.{World}
 use Rattle.cil_semantics.specs.declared.state.Frame.{Frame}
 use Rattle.cil_semantics.specs.declared.state.Continuation.TheVariants.{Push}
-use Rattle.cil_semantics.specs.Calls.{CoreMember, Constructor, NotCore, core_of, call_member, make, pushes_new}
+use Rattle.cil_semantics.specs.Calls.{core_of, call_member, make, pushes_new}
 use Rattle.cil_semantics.specs.Checks.{AddedNumbers}
 use Rattle.machine_laws.specs.Answers.{is_below}
 use Rattle.splice_facts.specs.WellFormed.{NoneVoid, WellFormedValues, WellFormedWorld}
 use Rattle.splice_facts.specs.Input.{result_count}
+pub use Rattle.splice_facts.specs.Input.{GivesAsDescribed, NamesGiving}
 use Rattle.splice_facts.specs.Related.{Rewritten, HasHeight, bounds, count_groups}
 use Rattle.simulation_valid.specs.Keeping.{StaysValid, ValidTail}
 use Rattle.simulation_valid.specs.Steps.{NextHeight, MayCall, RunsHere}
-
--- a core member is described with the result that it has: a constructor with none, each other one with a value (ECMA-335, Partition IV)
-abbrev pub GivesAsDescribed : CoreMember → ℕ → Type 0
-GivesAsDescribed Constructor n = n ≡ 0
-GivesAsDescribed NotCore n = Unit {0}
-GivesAsDescribed c n = n ≡ 1
-
-abbrev pub NamesGiving : Program → Option Meaning → Type 0
-NamesGiving p (Some (OfMethod owner m args)) = GivesAsDescribed (core_of p owner m) (result_count p m)
-NamesGiving p m = Unit {0}
 
 module _ (p : Program) (k : Contracts) (ms : List MethodDesc) (g : AddedNumbers) (r : Rewritten p k ms g) where
   -- A call of the member that a token names: a core member, ForAll or Exists, one outside, or one with a body.
