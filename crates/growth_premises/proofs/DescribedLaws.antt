@@ -1,9 +1,9 @@
 -- Interfaces are types, and rows of MethodImpl and MethodSpec name methods, by the rules that a set keeps.
-use Rattle.std.proofs.Common.{◌≡◌, ◌∙◌, sym, ap, refl, rules, ℕ, ◌*◌, ◌≤◌, Bool, true, false}
-use Rattle.std.specs.Prelude.{◌==◌, ◌&&◌, ◌/◌, ◌%◌, nat_lt, nat_le, is_some, is_none, Option, Some, None, option_map, option_and_then, if◌then◌else◌}
+use Rattle.std.proofs.Common.{◌≡◌, ◌∙◌, sym, ap, refl, arith, ℕ, ◌*◌, ◌<◌, ◌≤◌, Bool, true, false, ◌⊎◌, inl, inr}
+use Rattle.std.specs.Prelude.{◌==◌, ◌/◌, ◌%◌, nat_lt, nat_le, is_some, Option, Some, None, option_map, option_and_then, if◌then◌else◌}
 use Rattle.cil_base.specs.declared.tables.TheConstants.{INTERFACE_IMPL, MEMBER_REF, METHOD_DEF, METHOD_IMPL, METHOD_SPEC, TYPE_DEF}
 use Rattle.cil_model.specs.declared.ty.Ty.{Ty}
-use Rattle.set_rows.specs.Sets.{Assembly, Assemblies, assembly_at, count_in, cell, is_row}
+use Rattle.set_rows.specs.Sets.{Assemblies, assembly_at, count_in, cell, is_row}
 use Rattle.set_rows.specs.Owners.{owner}
 use Rattle.set_program.specs.declared.identity.TypeId.{TypeId}
 use Rattle.set_program.specs.Environment.{coded_in, ty_by_id}
@@ -13,7 +13,9 @@ use Rattle.member_table.specs.declared.named.MemberId.TheVariants as id
 use Rattle.member_table.specs.Members.{member}
 use Rattle.member_table.specs.MemberRules.{is_missing}
 use Rattle.descriptions.specs.Descriptions.{number_in, named_as, owner_ty, method_of_row, of_named, parent_ty, reference_at, method_at}
-use Rattle.set_growth.proofs.FindLaws.{lt_from, le_from}
+use Rattle.set_growth.proofs.FindLaws.{lt_from, le_from, differs}
+use Rattle.std.proofs.lemmas.Bool.{cases_lt}
+use Rattle.program_growth.proofs.KeptNamedLaws.{no_method}
 use Rattle.program_growth.specs.Rules.{IsMethodIndex, IsDescribed}
 use Rattle.growth_premises.specs.Rules.{KeepsRules, HasMethodIndexes, is_method_index}
 use Rattle.growth_premises.proofs.RuleLaws.{is_there, mapped, both_left, both_right, there, leads}
@@ -23,6 +25,14 @@ named_some : (s : Assemblies) (t : Option Ty) (n : Named) → is_missing n ≡ f
 named_some s t (named.InSet f) h = refl
 named_some s t (named.Outside m) h = refl
 named_some s t named.Missing h = absurd cc
+
+-- an index of row 0 names nothing
+not_none_low : (s : Assemblies) (a coded : ℕ) → is_some (method_at s a coded) ≡ true → 1 ≤ coded / 2
+not_none_low s a coded h = go (cases_lt (coded / 2) 1)
+  where
+    go : (coded / 2 < 1) ⊎ (1 ≤ coded / 2) → 1 ≤ coded / 2
+    go (inl l) = let none : coded / 2 ≡ 0 = omega (arith, l) in absurd (let wrong : false ≡ true = sym (ap is_some (no_method s a coded none)) ∙ h in cc)
+    go (inr l) = l
 
 module _ (s : Assemblies) (kept : KeepsRules s) where
   record Within (a table row : ℕ) : Type 0 where
@@ -56,8 +66,10 @@ module _ (s : Assemblies) (kept : KeepsRules s) where
       ∙ named_some s (parent_ty s a (cell (assembly_at s a) MEMBER_REF row 0)) (member s a row) (there s kept a MEMBER_REF row at.low at.high)
 
   -- an index of a row names a method
-  names_method : (a coded : ℕ) → is_method_index (assembly_at s a) coded ≡ true → IsMethodIndex s a coded
-  names_method a coded h = go (coded % 2 == 0) refl h
+  names_method : (a coded : ℕ) → is_method_index (assembly_at s a) coded ≡ true → 1 ≤ coded / 2 → IsMethodIndex s a coded
+  names_method a coded h low =
+      go (coded % 2 == 0) refl
+      (sym (ap (λ (b : Bool). if b then true else if coded % 2 == 0 then is_row (assembly_at s a) METHOD_DEF (coded / 2) else is_row (assembly_at s a) MEMBER_REF (coded / 2)) (differs (coded / 2) 0 (λ e. omega (arith, e, low)))) ∙ h)
     where
       of_row : (e : (coded % 2 == 0) ≡ true) → is_row (assembly_at s a) METHOD_DEF (coded / 2) ≡ true → Within a METHOD_DEF (coded / 2) → IsMethodIndex s a coded
       of_row e f at = record {
@@ -84,5 +96,5 @@ module _ (s : Assemblies) (kept : KeepsRules s) where
     interfaces = λ a k low high. leads s kept a (cell (assembly_at s a) INTERFACE_IMPL k 1) (indexes.interfaces a k low high);
     bodies = λ a k low high. names_method a (cell (assembly_at s a) METHOD_IMPL k 1) (indexes.bodies a k low high);
     declarations = λ a k low high. names_method a (cell (assembly_at s a) METHOD_IMPL k 2) (indexes.declarations a k low high);
-    instances = λ a row low high is. names_method a (cell (assembly_at s a) METHOD_SPEC row 0) (indexes.instances a row low high);
+    instances = λ a row low high is. names_method a (cell (assembly_at s a) METHOD_SPEC row 0) (indexes.instances a row low high) (not_none_low s a (cell (assembly_at s a) METHOD_SPEC row 0) is);
   }

@@ -1,18 +1,17 @@
 -- No type of a grown program is above itself, where none was: what is new stands above all that was there.
-use Rattle.std.proofs.Common.{◌≡◌, ◌∙◌, sym, ap, refl, subst, arith, rules, ℕ, zero, suc, ◌+◌, ◌-◌, ◌<◌, ◌≤◌, List, [], ◌∷◌, length, Bool, true, false, ◌⊎◌, inl, inr}
+use Rattle.std.proofs.Common.{◌≡◌, ◌∙◌, sym, ap, refl, subst, arith, ℕ, zero, suc, ◌+◌, ◌-◌, ◌<◌, ◌≤◌, List, [], ◌∷◌, length, Bool, true, false, ◌⊎◌, inl, inr}
 use Rattle.std.specs.Prelude.{Option, Some, None, nat_lt, slice_get, unwrap_or, if◌then◌else◌, codes, Contains, get_or}
 use Rattle.std.proofs.lemmas.Bool.{cases_lt, lt-ltb}
 use Rattle.cil_model.specs.declared.ty.Ty.{Ty, out-Ty, out-roll-Ty, Prim, Known, Outside, Array', ByRef', Var, MVar, Opaque, Inst'}
 use Rattle.cil_model.specs.declared.ty.Ty as types
-use Rattle.cil_model.specs.declared.ty.Ty.TheOpen.{Ty-F}
 use Rattle.cil_model.specs.declared.program.Program.{Program}
 use Rattle.cil_model.specs.declared.program.TypeDesc.{TypeDesc}
 use Rattle.cil_semantics.specs.Words.{maybe}
-use Rattle.cil_semantics.specs.Types.{Layer, under, all_under}
+use Rattle.cil_semantics.specs.Types.{under, all_under}
 use Rattle.cil_semantics.specs.Core.{object_ty, class_named}
 use Rattle.cil_semantics.specs.Lookups.{type_of, in_set, base_from, base_of, interfaces_from, interfaces_of, contract_exception, most_bases}
 use Rattle.machine_laws.specs.Answers.{Each, NamesOwn, NamesNone, IsAmong, is_below}
-use Rattle.machine_laws.specs.Growth.{Ranked, KeptType}
+use Rattle.machine_laws.specs.Growth.{Ranked}
 use Rattle.machine_laws.proofs.AnswerLaws.{AreClosed}
 use Rattle.machine_laws.proofs.ClosedLaws.{are_closed}
 use Rattle.set_growth.proofs.FindLaws.{lt_true, lt_false, lt_from}

@@ -5,3 +5,6 @@ pub mod RuleLaws
 pub mod OutsideLaws
 pub mod PlacedLaws
 pub mod DescribedLaws
+pub mod AttributeLaws
+pub mod ReferenceLaws
+pub mod OwnerLaws

@@ -20,7 +20,7 @@ use Rattle.set_program.specs.Attributes.{named_id, attribute_outside}
 use Rattle.set_program.specs.Environment.{types_of, number_of}
 use Rattle.type_table.proofs.NumberingLaws.{cut_low, cut_high, other_number, old_number, new_number, outside_number}
 use Rattle.set_growth.proofs.FindLaws.{Among, found_among}
-use Rattle.set_growth.proofs.GrowthLists.{Each, each_append, each_on}
+use Rattle.set_growth.proofs.GrowthLists.{Each, each_append}
 use Rattle.program_growth.specs.Rules.{IsRowOf, IsNumbered}
 
 -- ---- names that are among others

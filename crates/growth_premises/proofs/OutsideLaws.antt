@@ -1,20 +1,19 @@
 -- Each member outside that a MemberRef row names is among those of the list, and has a number.
-use Rattle.std.proofs.Common.{◌≡◌, ◌∙◌, sym, ap, refl, subst, arith, rules, ℕ, zero, suc, ◌+◌, ◌-◌, ◌<◌, ◌≤◌, List, [], ◌∷◌, ◌++◌, length, Bool, true, false, ◌⊎◌, inl, inr, ◌||◌}
-use Rattle.std.specs.Prelude.{cond, map, flat_map, bytes_eq, ◌==◌, ◌&&◌, nat_lt, is_some, Option, Some, None, if◌then◌else◌}
+use Rattle.std.proofs.Common.{◌≡◌, ◌∙◌, sym, ap, refl, subst, arith, rules, ℕ, zero, suc, ◌+◌, ◌<◌, ◌≤◌, List, [], ◌∷◌, ◌++◌, length, Bool, true, false, ◌⊎◌, inl, inr, ◌||◌}
+use Rattle.std.specs.Prelude.{cond, map, flat_map, bytes_eq, ◌&&◌, is_some, Option, Some, None, if◌then◌else◌}
 use Rattle.std.specs.List.{range_with_len, position_from}
 use Rattle.std.proofs.lemmas.Bool.{cases_lt}
 use Rattle.std.proofs.lemmas.Grind.{flat_map-append}
 use Rattle.cil_base.specs.declared.tables.TheConstants.{MEMBER_REF}
 use Rattle.set_names.specs.Cycles.{any}
-use Rattle.set_rows.specs.Sets.{Assembly, Assemblies, assembly_at, count_in}
+use Rattle.set_rows.specs.Sets.{Assemblies, assembly_at, count_in}
 use Rattle.set_signatures.specs.Shapes.{same_bool, is_same}
 use Rattle.set_program.specs.Numbering.{Cell, order, old_rows, new_rows}
 use Rattle.members.specs.MemberRows.{member_table}
-use Rattle.members.specs.OutsideMembers.{same_member, added_member, member_place}
+use Rattle.members.specs.OutsideMembers.{same_member, member_place}
 use Rattle.members.specs.declared.outside_member.OutsideMember.{OutsideMember}
 use Rattle.member_table.specs.declared.named.MemberId.{MemberId}
 use Rattle.member_table.specs.declared.named.MemberId.TheVariants as id
-use Rattle.member_table.specs.declared.named.Named.{Named}
 use Rattle.member_table.specs.declared.named.Named.TheVariants as named
 use Rattle.member_table.specs.Environments.{environment}
 use Rattle.member_table.specs.Members.{member}
@@ -31,7 +30,7 @@ same_kind : (b : Bool) → same_bool b b ≡ true
 same_kind true = refl
 same_kind false = refl
 
-itself : (m : OutsideMember) → same_member m m ≡ true
+pub itself : (m : OutsideMember) → same_member m m ≡ true
 itself m =
     ap (λ (b : Bool). b && is_same m.shape m.shape) (same_name m.owner)
     ∙ ap (λ (b : Bool). b && (same_bool m.shape.is_field m.shape.is_field && bytes_eq m.shape.signature m.shape.signature)) (same_name m.shape.name)

@@ -1,7 +1,7 @@
 -- Each row of a member, its owner and the type around a type have numbers.
 use Rattle.std.proofs.Common.{◌≡◌, ◌∙◌, sym, ap, refl, subst, arith, rules, ℕ, zero, suc, ◌+◌, ◌-◌, ◌*◌, ◌<◌, ◌≤◌, List, [], ◌∷◌, ◌++◌, length, Bool, true, false, ◌⊎◌, inl, inr, ◌||◌}
-use Rattle.std.specs.Prelude.{cond, find, map, flat_map, max, ◌==◌, ◌&&◌, nat_lt, nat_le, slice_get, unwrap_or, is_some, Option, Some, None, option_and_then, if◌then◌else◌}
-use Rattle.std.specs.List.{range_with_len, position_from}
+use Rattle.std.specs.Prelude.{find, map, flat_map, max, ◌==◌, ◌&&◌, nat_lt, nat_le, slice_get, unwrap_or, is_some, Option, Some, None, option_and_then, if◌then◌else◌}
+use Rattle.std.specs.List.{range_with_len}
 use Rattle.std.proofs.lemmas.Bool.{cases_lt}
 use Rattle.std.proofs.lemmas.List.{map-append}
 use Rattle.cil_base.specs.declared.tables.TheConstants.{FIELD, METHOD_DEF, NESTED_CLASS, TYPE_DEF, TYPE_REF}
@@ -12,9 +12,9 @@ use Rattle.set_rows.specs.Owners.{owner, owns}
 use Rattle.set_types.specs.CodedIndexes.{tag, row_of}
 use Rattle.set_program.specs.declared.identity.TypeId.{TypeId}
 use Rattle.set_program.specs.declared.identity.TypeId.TheVariants.{Row}
-use Rattle.set_program.specs.TypeNames.{enclosing, enclosing_in, type_named}
+use Rattle.set_program.specs.TypeNames.{enclosing, enclosing_in}
 use Rattle.set_program.specs.References.{reference}
-use Rattle.set_program.specs.Numbering.{Cell, runtime_name, row_or, type_cut, first_owned, cut, rows_between, old_rows, new_rows}
+use Rattle.set_program.specs.Numbering.{Cell, row_or, type_cut, first_owned, cut, rows_between, old_rows, new_rows}
 use Rattle.set_program.specs.Attributes.{named_id}
 use Rattle.set_program.specs.Environment.{number_of, coded_in}
 use Rattle.members.specs.MemberRows.{member_table, list_column, row_owner}
@@ -52,7 +52,7 @@ each_of : {A : Type 0} (P : A → Type 0) (l : List A) → ((k : ℕ) (v : A) �
 each_of P [] h = tt
 each_of P (v ∷ l) h = (h 0 v refl, each_of P l (λ k w e. h (suc k) w e))
 
-each_got : {A : Type 0} (P : A → Type 0) (l : List A) (k : ℕ) (v : A) → Each P l → slice_get l k ≡ Some v → P v
+pub each_got : {A : Type 0} (P : A → Type 0) (l : List A) (k : ℕ) (v : A) → Each P l → slice_get l k ≡ Some v → P v
 each_got P [] k v h e = absurd cc
 each_got {A} P (w ∷ l) zero v h e = subst P (ap (λ (o : Option A). unwrap_or o w) e) h.0
 each_got P (w ∷ l) (suc k) v h e = each_got P l k v h.1 e
@@ -88,7 +88,7 @@ owner_row y column table k row e = go (is_row y table k) e
     go true f = let at : Among 1 (count_in y TYPE_DEF) row = found_among (owns y column table k) 1 (count_in y TYPE_DEF) row f in (at.low, omega (arith, at.high))
     go false f = absurd cc
 
-module _ (x : Assembly) (xs : Assemblies) (orderly : IsOrderly x) (nests : NestsInTypes (x ∷ xs)) (refs : HasReferences (x ∷ xs)) where
+module _ (x : Assembly) (xs : Assemblies) (orderly : IsOrderly x) where
   abbrev s : Assemblies
   s = x ∷ xs
 
@@ -150,7 +150,7 @@ module _ (x : Assembly) (xs : Assemblies) (orderly : IsOrderly x) (nests : Nests
         ap (any (same_id (id.Row (suc a) r))) old_split
         ∙ any_left (same_id (id.Row (suc a) r)) (map of_row (others 1 (length xs))) (map of_row (rows_between 0 1 (cut x table))) (any_others (suc a) r 1 (length xs) (omega arith) (omega (arith, there)) low high)
 
-    members : (a r : ℕ) → 1 ≤ r → r ≤ count_in (assembly_at s a) table → is_some (member_number s is_field (id.Row a r)) ≡ true
+    pub members : (a r : ℕ) → 1 ≤ r → r ≤ count_in (assembly_at s a) table → is_some (member_number s is_field (id.Row a r)) ≡ true
     unfolding member_ids
     members a r low high = some_place (same_id (id.Row a r)) 0 (old ++ (outside ++ new)) (any_left (same_id (id.Row a r)) old (outside ++ new) (any_old a r low high))
 
@@ -175,13 +175,13 @@ module _ (x : Assembly) (xs : Assemblies) (orderly : IsOrderly x) (nests : Nests
     outside_there [] h = tt
     outside_there (m ∷ ms) h = (h.0, outside_there ms h.1)
 
-    all_there : Each (IsMember s is_field) (member_ids s is_field)
+    all_there : ((k : ℕ) (m : OutsideMember) → slice_get (outside_members s is_field) k ≡ Some m → IsOutside s is_field m) → Each (IsMember s is_field) (member_ids s is_field)
     unfolding member_ids
-    all_there =
+    all_there named =
         each_append (IsMember s is_field) old (outside ++ new)
         (each_map_append (others 1 (length xs)) (rows_between 0 1 (cut x table)) (others_there 1 (length xs)) (ranged 0 1 (cut x table - 1) (λ r low high. (low, omega (arith, high, cut_is is_field)))))
         (each_append (IsMember s is_field) outside new
-        (outside_there (outside_members s is_field) (each_of (IsOutside s is_field) (outside_members s is_field) (refs.ids is_field)))
+        (outside_there (outside_members s is_field) (each_of (IsOutside s is_field) (outside_members s is_field) named))
         (ranged 0 (cut x table) (count_in x table + 1 - cut x table) (λ r low high. absurd (omega (arith, low, high, cut_is is_field)))))
 
   -- ---- owners, and types around types
@@ -214,12 +214,13 @@ module _ (x : Assembly) (xs : Assemblies) (orderly : IsOrderly x) (nests : Nests
       go true f = by_found (find (λ n. cell y NESTED_CLASS n 0 == row) (rows_in y NESTED_CLASS)) f
       go false f = absurd cc
 
-  pub has_places : HasPlaces s
-  has_places = record {
-    ids = λ is_field k m e. each_got (IsMember s is_field) (member_ids s is_field) k m (all_there is_field) e;
-    members = members;
-    found = refs.found;
-    outside = outside_numbered s;
-    owners = owners;
-    around = λ a row k e. row_number a k (around_low (assembly_at s a) row k e) (nests a row k e);
-  }
+  module _ (nests : NestsInTypes s) (refs : HasReferences s) where
+    pub has_places : HasPlaces s
+    has_places = record {
+      ids = λ is_field k m e. each_got (IsMember s is_field) (member_ids s is_field) k m (all_there is_field (refs.ids is_field)) e;
+      members = members;
+      found = refs.found;
+      outside = outside_numbered s;
+      owners = owners;
+      around = λ a row k e. row_number a k (around_low (assembly_at s a) row k e) (nests a row k e);
+    }

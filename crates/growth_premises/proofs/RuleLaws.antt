@@ -1,23 +1,21 @@
 -- What a set names, by the rules that it keeps.
 use Rattle.std.proofs.Common.{◌≡◌, ◌∙◌, sym, ap, refl, rules, ℕ, ◌≤◌, List, [], ◌∷◌, Bool, true, false}
 use Rattle.std.specs.Prelude.{◌==◌, ◌&&◌, ◌||◌, nat_lt, nat_le, is_some, is_none, Option, Some, None, option_map, if◌then◌else◌}
-use Rattle.cil_base.specs.declared.tables.TheConstants.{CUSTOM_ATTRIBUTE, FIELD, MEMBER_REF, METHOD_DEF, TYPE_DEF, TYPE_REF, TYPE_SPEC}
+use Rattle.cil_base.specs.declared.tables.TheConstants.{CUSTOM_ATTRIBUTE, MEMBER_REF, TYPE_DEF, TYPE_REF, TYPE_SPEC}
 use Rattle.cil_base.specs.declared.rule.Rule.TheVariants.{N1, N2, N4, N6}
 use Rattle.cil_base.specs.Refusals.{Test, first_of}
-use Rattle.cil_model.specs.declared.ty.Ty.{Ty}
 use Rattle.cli_sigs.specs.declared.types.SigTy.{SigTy}
-use Rattle.set_rows.specs.Sets.{Assembly, Assemblies, assembly_at, count_in, cell, blob, is_row}
+use Rattle.set_rows.specs.Sets.{Assemblies, assembly_at, count_in, cell, blob, is_row}
 use Rattle.set_types.specs.CodedIndexes.{tag, row_of}
 use Rattle.set_types.specs.SignatureTypes.{ty_of}
 use Rattle.set_signatures.specs.Blobs.{spec_sig}
-use Rattle.set_program.specs.declared.identity.TypeId.{TypeId}
-use Rattle.set_program.specs.declared.identity.TypeId.TheVariants.{Row, Outside}
+use Rattle.set_program.specs.declared.identity.TypeId.TheVariants.{Row}
 use Rattle.set_program.specs.References.{reference}
 use Rattle.set_program.specs.Appended.{AllNamed}
 use Rattle.set_program.specs.Attributes.{named_id, names_type, attribute_type}
-use Rattle.set_program.specs.Environment.{coded_in, row_types, ty_by_id, ty_at}
-use Rattle.set_program.specs.TypeRules.{test, type_tests}
-use Rattle.member_table.specs.Members.{is_type, parent_index}
+use Rattle.set_program.specs.Environment.{coded_in, row_types, ty_by_id}
+use Rattle.set_program.specs.TypeRules.{test}
+use Rattle.member_table.specs.Members.{parent_index}
 use Rattle.member_table.specs.MemberRules.{isnt_read, isnt_there, is_taken_at, miscounts_at, is_unfit, member_tests}
 use Rattle.set_growth.proofs.FindLaws.{lt_from, le_from}
 use Rattle.program_growth.specs.Rules.{IsTypeIndex, IsNamed}
@@ -25,14 +23,14 @@ use Rattle.growth_premises.specs.Rules.{KeepsRules, HasIndexes, is_type_index}
 
 -- ---- tests of which none fails
 
-no_first : (t : Test) (ts : List Test) → first_of (t ∷ ts) ≡ None → t.fails ≡ false
+pub no_first : (t : Test) (ts : List Test) → first_of (t ∷ ts) ≡ None → t.fails ≡ false
 no_first t ts h = go t.fails h
   where
     go : (b : Bool) → (if b then Some t.refusal else first_of ts) ≡ None → b ≡ false
     go true e = absurd cc
     go false e = refl
 
-no_later : (t : Test) (ts : List Test) → first_of (t ∷ ts) ≡ None → first_of ts ≡ None
+pub no_later : (t : Test) (ts : List Test) → first_of (t ∷ ts) ≡ None → first_of ts ≡ None
 no_later t ts h = go t.fails h
   where
     go : (b : Bool) → (if b then Some t.refusal else first_of ts) ≡ None → first_of ts ≡ None
@@ -78,7 +76,7 @@ module _ (s : Assemblies) (kept : KeepsRules s) where
   abbrev more_tests : ℕ → ℕ → ℕ → List Test
   more_tests a table row = test N4 a table row (is_taken_at s a table row) ∷ test N6 a table row (miscounts_at s a (types_at a table row) || is_unfit s a table row (types_at a table row)) ∷ []
 
-  read : (a table row : ℕ) → 1 ≤ row → row ≤ count_in (assembly_at s a) table → isnt_read (coded_in s a) (row_types (assembly_at s a) table row) ≡ false
+  pub read : (a table row : ℕ) → 1 ≤ row → row ≤ count_in (assembly_at s a) table → isnt_read (coded_in s a) (row_types (assembly_at s a) table row) ≡ false
   unfolding member_tests
   read a table row low high = no_first (read_test a table row) (there_test a table row ∷ more_tests a table row) (kept.members a table row low high)
 
@@ -93,7 +91,7 @@ module _ (s : Assemblies) (kept : KeepsRules s) where
       (sym (ap (λ (b : Bool). b && is_none (attribute_type s a k)) is)
       ∙ no_first (test N1 a CUSTOM_ATTRIBUTE k (names_type s a k && is_none (attribute_type s a k))) [] (kept.types a CUSTOM_ATTRIBUTE k low high))
 
-  referenced : (a row : ℕ) → is_row (assembly_at s a) TYPE_REF row ≡ true → is_some (reference s a row) ≡ true
+  pub referenced : (a row : ℕ) → is_row (assembly_at s a) TYPE_REF row ≡ true → is_some (reference s a row) ≡ true
   referenced a row h = all_named a row (le_from row (count_in (assembly_at s a) TYPE_REF) (both_right (nat_lt 0 row) (nat_le row (count_in (assembly_at s a) TYPE_REF)) h)) (lt_from 0 row (both_left (nat_lt 0 row) (nat_le row (count_in (assembly_at s a) TYPE_REF)) h))
 
   -- an index that leads to a row names a type

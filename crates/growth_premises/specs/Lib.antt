@@ -1,3 +1,4 @@
 pub mod Bases
 pub mod Rules
 pub mod Places
+pub mod Attributes

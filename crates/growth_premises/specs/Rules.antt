@@ -30,11 +30,11 @@ pub record HasIndexes (s : Assemblies) : Type 0 where
   pub bases : (a row : ℕ) → 1 ≤ row → row ≤ count_in (assembly_at s a) TYPE_DEF → is_type_index (assembly_at s a) (cell (assembly_at s a) TYPE_DEF row 3) ≡ true
   pub parents : (a row : ℕ) → 1 ≤ row → row ≤ count_in (assembly_at s a) MEMBER_REF → is_type (cell (assembly_at s a) MEMBER_REF row 0) ≡ true → is_type_index (assembly_at s a) (parent_index (cell (assembly_at s a) MEMBER_REF row 0)) ≡ true
 
--- a MethodDefOrRef index of a row
+-- a MethodDefOrRef index that is 0, or of a row
 abbrev pub is_method_index : Assembly → ℕ → Bool
-is_method_index x coded = if coded % 2 == 0 then is_row x METHOD_DEF (coded / 2) else is_row x MEMBER_REF (coded / 2)
+is_method_index x coded = if coded / 2 == 0 then true else if coded % 2 == 0 then is_row x METHOD_DEF (coded / 2) else is_row x MEMBER_REF (coded / 2)
 
--- interfaces, and what rows of MethodImpl and MethodSpec name, are rows (M5)
+-- interfaces, and what rows of MethodImpl and MethodSpec name, are rows or 0 (M5)
 pub record HasMethodIndexes (s : Assemblies) : Type 0 where
   pub interfaces : (a k : ℕ) → 1 ≤ k → k ≤ count_in (assembly_at s a) INTERFACE_IMPL → is_type_index (assembly_at s a) (cell (assembly_at s a) INTERFACE_IMPL k 1) ≡ true
   pub bodies : (a k : ℕ) → 1 ≤ k → k ≤ count_in (assembly_at s a) METHOD_IMPL → is_method_index (assembly_at s a) (cell (assembly_at s a) METHOD_IMPL k 1) ≡ true

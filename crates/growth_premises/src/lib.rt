@@ -3,4 +3,7 @@
 
 mod laws;
 
-pub use laws::{grown_is_ranked, set_has_places, set_is_described, set_is_named, set_is_numbered};
+pub use laws::{
+    grown_is_ranked, grown_says_alike, set_has_places, set_has_references, set_is_described,
+    set_is_named, set_is_numbered,
+};

@@ -45,7 +45,7 @@ use Rattle.program_growth.specs.Kept.{ExtendsCoded, KeepsDescriptions}
 use Rattle.program_growth.proofs.KeptCodedLaws.{MethodKept, method_kept, or_first, coded_stays, ty_same, old_text, old_blob, old_cell}
 use Rattle.program_growth.proofs.SignatureLaws.{keeps_signatures}
 use Rattle.program_growth.proofs.KeptNumberLaws.{IsOldCell, rows_grow, cells_old, outside_same}
-use Rattle.program_growth.proofs.KeptNamedLaws.{number_same, type_number_same, owner_same, method_at_same}
+use Rattle.program_growth.proofs.KeptNamedLaws.{number_same, type_number_same, owner_same, method_index_same}
 
 -- ---- lists
 
@@ -300,9 +300,9 @@ module _ (x x' : Assembly) (xs : Assemblies) (grown : IsGrown x x') (access : Ke
   impl_same : (a k : ℕ) → 1 ≤ k → k ≤ count_in (assembly_at s a) METHOD_IMPL → impl_at s' a k ≡ impl_at s a k
   impl_same a k low high =
       ap (λ (o : Option NamedMember). impl_of o (method_at s' a (cell (assembly_at s' a) METHOD_IMPL k 2)))
-      (ap (method_at s' a) (same_cell a METHOD_IMPL k 1 refl) ∙ method_at_same x x' xs grown orderly named numbered alike placed a (cell (assembly_at s a) METHOD_IMPL k 1) (described.bodies a k low high))
+      (ap (method_at s' a) (same_cell a METHOD_IMPL k 1 refl) ∙ method_index_same x x' xs grown orderly named numbered alike placed a (cell (assembly_at s a) METHOD_IMPL k 1) (described.bodies a k low high))
       ∙ ap (impl_of (method_at s a (cell (assembly_at s a) METHOD_IMPL k 1)))
-      (ap (method_at s' a) (same_cell a METHOD_IMPL k 2 refl) ∙ method_at_same x x' xs grown orderly named numbered alike placed a (cell (assembly_at s a) METHOD_IMPL k 2) (described.declarations a k low high))
+      (ap (method_at s' a) (same_cell a METHOD_IMPL k 2 refl) ∙ method_index_same x x' xs grown orderly named numbered alike placed a (cell (assembly_at s a) METHOD_IMPL k 2) (described.declarations a k low high))
 
   impls_same : (a row : ℕ) → filter_map (impl_at s' a) (rows_with (assembly_at s' a) METHOD_IMPL 0 row) ≡ filter_map (impl_at s a) (rows_with (assembly_at s a) METHOD_IMPL 0 row)
   impls_same a row =

@@ -1,10 +1,12 @@
 -- What rows of members, MemberRef rows and MethodDefOrRef indexes name, and the numbers of members, where rows are appended.
-use Rattle.std.proofs.Common.{◌≡◌, ◌∙◌, sym, ap, refl, ℕ, ◌≤◌, ◌∷◌, Bool, true, false}
+use Rattle.std.proofs.Common.{◌≡◌, ◌∙◌, sym, ap, refl, arith, ℕ, ◌<◌, ◌≤◌, ◌∷◌, Bool, true, false, ◌⊎◌, inl, inr}
 use Rattle.std.specs.Prelude.{◌==◌, ◌/◌, ◌*◌, ◌%◌, is_some, Option, Some, None, option_map, option_and_then, if◌then◌else◌}
+use Rattle.std.proofs.lemmas.Bool.{cases_lt}
 use Rattle.cil_base.specs.declared.tables.TheConstants.{FIELD, MEMBER_REF, METHOD_DEF}
 use Rattle.cil_model.specs.declared.ty.Ty.{Ty}
 use Rattle.cil_model.specs.declared.ty.Ty.TheVariants as ty
 use Rattle.set_rows.specs.Sets.{Assembly, Assemblies, assembly_at, count_in, is_row, or_zero}
+use Rattle.set_rows.specs.Owners.{owner}
 use Rattle.set_types.specs.SignatureTypes.{ty_or}
 use Rattle.set_program.specs.declared.identity.TypeId.{TypeId}
 use Rattle.set_program.specs.Environment.{number_of, number_or, coded_in}
@@ -26,6 +28,21 @@ use Rattle.program_growth.specs.Rules.{IsNamed, IsNumbered, IsMethodIndex, HasPl
 use Rattle.program_growth.proofs.KeptCodedLaws.{number_stays, coded_stays, row_is, row_stays}
 use Rattle.program_growth.proofs.KeptMemberLaws.{stays_same, then_stays, map_stays, row_owner_stays, row_owner_same, member_same, parent_same}
 use Rattle.program_growth.proofs.KeptNumberLaws.{member_stays}
+
+-- an index of row 0 names nothing
+pub no_method : (u : Assemblies) (a coded : ℕ) → coded / 2 ≡ 0 → method_at u a coded ≡ None
+unfolding owner reference_at
+no_method u a coded e = go (coded % 2 == 0)
+  where
+    no_row : method_of_row u a 0 ≡ None
+    no_row = refl
+
+    no_reference : reference_at u a 0 ≡ None
+    no_reference = refl
+
+    go : (b : Bool) → (if b then method_of_row u a (coded / 2) else reference_at u a (coded / 2)) ≡ None
+    go true = ap (method_of_row u a) e ∙ no_row
+    go false = ap (reference_at u a) e ∙ no_reference
 
 module _ (x x' : Assembly) (xs : Assemblies) (grown : IsGrown x x') (orderly : IsOrderly x) (named : IsNamed (x ∷ xs)) (numbered : IsNumbered (x ∷ xs)) (alike : SaysAlike (x ∷ xs) (x' ∷ xs)) (placed : HasPlaces (x ∷ xs)) where
   abbrev s : Assemblies
@@ -107,3 +124,10 @@ module _ (x x' : Assembly) (xs : Assemblies) (grown : IsGrown x x') (orderly : I
           → (if b then method_of_row s' a (coded / 2) else reference_at s' a (coded / 2)) ≡ (if b then method_of_row s a (coded / 2) else reference_at s a (coded / 2))
       go true e there = stays_same (method_of_row s a (coded / 2)) (method_of_row s' a (coded / 2)) there (method_of_row_stays a (coded / 2) index.low (index.row e))
       go false e there = reference_at_same a (coded / 2) index.low (index.reference e)
+
+  pub method_index_same : (a coded : ℕ) → (1 ≤ coded / 2 → IsMethodIndex s a coded) → method_at s' a coded ≡ method_at s a coded
+  method_index_same a coded index = go (cases_lt (coded / 2) 1)
+    where
+      go : (coded / 2 < 1) ⊎ (1 ≤ coded / 2) → method_at s' a coded ≡ method_at s a coded
+      go (inl l) = let none : coded / 2 ≡ 0 = omega (arith, l) in no_method s' a coded none ∙ sym (no_method s a coded none)
+      go (inr l) = method_at_same a coded (index l)

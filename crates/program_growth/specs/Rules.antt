@@ -43,11 +43,11 @@ pub record IsMethodIndex (s : Assemblies) (a coded : ℕ) : Type 0 where
   pub row : (coded % 2 == 0) ≡ true → coded / 2 ≤ count_in (assembly_at s a) METHOD_DEF
   pub reference : (coded % 2 == 0) ≡ false → coded / 2 ≤ count_in (assembly_at s a) MEMBER_REF
 
--- interfaces are types, and rows of MethodImpl and MethodSpec name methods (N1, N2)
+-- interfaces are types, and rows of MethodImpl and MethodSpec name methods where their indexes aren't 0 (N1, N2)
 pub record IsDescribed (s : Assemblies) : Type 0 where
   pub interfaces : (a k : ℕ) → 1 ≤ k → k ≤ count_in (assembly_at s a) INTERFACE_IMPL → IsTypeIndex s a (cell (assembly_at s a) INTERFACE_IMPL k 1)
-  pub bodies : (a k : ℕ) → 1 ≤ k → k ≤ count_in (assembly_at s a) METHOD_IMPL → IsMethodIndex s a (cell (assembly_at s a) METHOD_IMPL k 1)
-  pub declarations : (a k : ℕ) → 1 ≤ k → k ≤ count_in (assembly_at s a) METHOD_IMPL → IsMethodIndex s a (cell (assembly_at s a) METHOD_IMPL k 2)
+  pub bodies : (a k : ℕ) → 1 ≤ k → k ≤ count_in (assembly_at s a) METHOD_IMPL → 1 ≤ cell (assembly_at s a) METHOD_IMPL k 1 / 2 → IsMethodIndex s a (cell (assembly_at s a) METHOD_IMPL k 1)
+  pub declarations : (a k : ℕ) → 1 ≤ k → k ≤ count_in (assembly_at s a) METHOD_IMPL → 1 ≤ cell (assembly_at s a) METHOD_IMPL k 2 / 2 → IsMethodIndex s a (cell (assembly_at s a) METHOD_IMPL k 2)
   pub instances : (a row : ℕ) → 1 ≤ row → row ≤ count_in (assembly_at s a) METHOD_SPEC → is_some (method_at s a (cell (assembly_at s a) METHOD_SPEC row 0)) ≡ true → IsMethodIndex s a (cell (assembly_at s a) METHOD_SPEC row 0)
 
 -- ---- laws of the numbering of any set

@@ -1,0 +1,12 @@
+pub mod IndexLaws
+pub mod PathLaws
+pub mod UnreadLaws
+pub mod TargetIndexLaws
+pub mod NestingLaws
+pub mod RowIndexLaws
+pub mod SoundBlobLaws
+pub mod SoundRowLaws
+pub mod SoundLaws
+pub mod ReadLaws
+pub mod NewTypeLaws
+pub mod CheckedLaws
