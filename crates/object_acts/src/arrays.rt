@@ -1,17 +1,15 @@
 // Arrays that are made, and their lengths (ECMA-335, III.4.12 and 4.20).
 
-ghost use Rattle.std.specs.Prelude.{◌≡◌, ◌∷◌, [], pos, length, IfOk};
+ghost use Rattle.std.specs.Prelude.{◌≡◌, pos, length, IfOk};
 ghost use Rattle.std.specs.Option.{option_copied};
-ghost use Rattle.cil_model.specs.declared.value.Pointer.{Pointer as PointerOf};
 ghost use Rattle.cil_model.specs.declared.value.Value.{out-Value, Native as native};
 ghost use Rattle.cil_semantics.specs.Acts as acts;
 ghost use Rattle.frame_acts.specs.Meant.{meant};
 
-use crate::heap::{number_of_next, object_of};
-use cil_base::U32s;
-use cil_model::{Meaning, Pointer, Program, Ty, Value};
+use cil_model::{Meaning, Program, Ty, Value};
 use cil_semantics::{Local, Object, World};
 use frame_acts::{Wanted, push};
+use run_heap::{number_of_next, object_of};
 use run_numbers::{Exception, index_of, number_in};
 use run_values::default_of;
 use std::alloc::{AllocError, Global};
@@ -117,12 +115,4 @@ pub fn load_length(world: &World, local: &mut Local) -> Result<Wanted, AllocErro
             Ok(answer)
         }
     }
-}
-
-pub(crate) fn inside(alloc: Global, k: u32, j: u32) -> Result<Pointer, AllocError>
-    ensures { IfOk result (λ q. q ≡ PointerOf.Inside k (j ∷ [])) }
-{
-    let mut path = U32s::new(alloc);
-    path.push(j)?;
-    Ok(Pointer::Inside { object: k, path })
 }

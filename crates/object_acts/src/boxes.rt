@@ -6,11 +6,11 @@ ghost use Rattle.cil_semantics.specs.Acts as acts;
 ghost use Rattle.cil_semantics.specs.Places.{is_reference};
 ghost use Rattle.frame_acts.specs.Meant.{meant};
 
-use crate::heap::number_of_next;
 use cil_model::{Meaning, Program, Ty, Value};
 use cil_semantics::{Cell, Cells, Local, Object, World};
 use frame_acts::{Wanted, push};
 use il_opcodes::Storage;
+use run_heap::number_of_next;
 use run_values::{storage_of, stored_by_type};
 use std::alloc::{AllocError, Global};
 

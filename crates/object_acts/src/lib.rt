@@ -1,17 +1,13 @@
-//! What instructions on pointers, fields, statics, new arrays and boxes want done.
+//! What instructions on pointers, statics, new arrays and boxes want done.
 #![tactic(auto)]
 
 mod arrays;
 mod boxes;
-mod fields;
-mod heap;
 mod pointers;
 mod statics;
 
 pub use arrays::{load_length, new_array};
 pub use boxes::make_boxed;
-pub use fields::{FieldPlace, point_to_field, store_field};
-pub use heap::{number_of_next, object_of};
 pub use pointers::{
     copy_object, initialize_object, load_indirect, load_object, store_indirect, store_object,
 };

@@ -1,24 +1,24 @@
-// Fields of objects and of structs in places (ECMA-335, III.4.11 and 4.28).
+// Fields of objects, of structs in places and of structs on the stack (ECMA-335, III.4.10, 4.11 and 4.28).
 
-ghost use Rattle.std.specs.Prelude.{◌≡◌, ◌∷◌, [], if◌then◌else◌, None, IfOk};
+ghost use Rattle.std.specs.Prelude.{◌≡◌, ◌++◌, ◌∷◌, [], if◌then◌else◌, None, slice_get, IfOk};
 ghost use Rattle.std.specs.Option.{option_copied};
 ghost use Rattle.cil_model.specs.declared.value.Value.{Value as ValueOf, Ptr as pointer, out-Value};
 ghost use Rattle.cil_model.specs.declared.value.Pointer.{Pointer as PointerOf};
 ghost use Rattle.cil_semantics.specs.Acts as acts;
 ghost use Rattle.cil_semantics.specs.Acts.{Act};
-ghost use Rattle.cil_semantics.specs.Places.{field_place, is_reference, storage};
+ghost use Rattle.cil_semantics.specs.Places.{field_place, fields_in, is_reference, storage};
 ghost use Rattle.cil_semantics.specs.declared.Local.{Local as LocalOf};
+ghost use Rattle.il_opcodes.specs.declared.class.Storage.{Storage};
 ghost use Rattle.frame_acts.specs.Meant.{meant};
-ghost use Rattle.object_acts.specs.Found.{field_act};
+ghost use Rattle.field_acts.specs.Found.{field_act};
 
-use crate::arrays::inside;
-use crate::heap::object_of;
 use cil_model::{Meaning, Pointer, Program, Ty, Value};
 use cil_semantics::{Local, Object, World};
 use frame_acts::{Two, Wanted, pop_two, push};
 use il_opcodes::Storage;
+use run_heap::{inside, object_of};
 use run_numbers::Exception;
-use run_values::{place_of_field, storage_of};
+use run_values::{copied_value, place_of_field, storage_of};
 use sqlite_items::Boxed;
 use std::alloc::{AllocError, Global};
 
@@ -129,6 +129,84 @@ fn find_place(
         }
         other => Ok(FieldPlace::Other(other)),
     }
+}
+
+fn push_part(alloc: Global, v: &Value, part: usize, local: &mut Local) -> Result<Wanted, AllocError>
+    ensures { IfOk result (λ a. meant a local.new ≡ acts.if_some (slice_get (fields_in (out-Value v.now)) part) (λ x. acts.goes_with local.old x local.old.stack)) }
+{
+    let Value::Struct(parts) = v else {
+        return Ok(Wanted::Stuck);
+    };
+    match parts.get(part) {
+        None => Ok(Wanted::Stuck),
+        Some(x) => {
+            let copy = copied_value(alloc, x)?;
+            let answer = push(copy, local)?;
+            Ok(answer)
+        }
+    }
+}
+
+// A field of a struct on the stack.
+fn push_field(
+    alloc: Global,
+    program: &Program,
+    owner: &Ty,
+    field: u32,
+    v: &Value,
+    local: &mut Local,
+) -> Result<Wanted, AllocError>
+    ensures { IfOk result (λ a. meant a local.new ≡ acts.field_of_value program.now owner.now field v.now local.old local.old.stack) }
+{
+    match place_of_field(alloc, program, owner, field)? {
+        None => Ok(Wanted::Stuck),
+        Some(part) => {
+            let answer = push_part(alloc, v, part, local)?;
+            Ok(answer)
+        }
+    }
+}
+
+fn load_found(
+    alloc: Global,
+    program: &Program,
+    owner: &Ty,
+    field: u32,
+    found: FieldPlace,
+    local: &mut Local,
+) -> Result<Wanted, AllocError>
+    ensures { IfOk result (λ a. meant a local.new ≡ field_act found (λ q. Act.Load q Storage.Anything local.old) (λ v. acts.field_of_value program.now owner.now field v local.old local.old.stack)) }
+{
+    match found {
+        FieldPlace::Null => Ok(Wanted::Raise(Exception::NullReference)),
+        FieldPlace::Stuck => Ok(Wanted::Stuck),
+        FieldPlace::At(q) => Ok(Wanted::Load(q, Storage::Anything)),
+        FieldPlace::Other(v) => {
+            let answer = push_field(alloc, program, owner, field, &v, local)?;
+            Ok(answer)
+        }
+    }
+}
+
+/// `ldfld`
+pub fn load_field(
+    alloc: Global,
+    program: &Program,
+    meaning: Option<&Meaning>,
+    world: &World,
+    local: &mut Local,
+) -> Result<Wanted, AllocError>
+    ensures { IfOk result (λ a. meant a local.new ≡ acts.load_field program.now (option_copied meaning.entry) world.now local.old) }
+{
+    let Some(Meaning::OfField { owner, field }) = meaning else {
+        return Ok(Wanted::Stuck);
+    };
+    let Some(v) = local.stack.pop() else {
+        return Ok(Wanted::Stuck);
+    };
+    let found = find_place(alloc, program, world, owner, *field, v)?;
+    let answer = load_found(alloc, program, owner, *field, found, local)?;
+    Ok(answer)
 }
 
 fn push_place(alloc: Global, found: FieldPlace, local: &mut Local) -> Result<Wanted, AllocError>

@@ -1,0 +1,8 @@
+//! What instructions on calls, functions, names and sizes want done.
+#![tactic(auto)]
+
+mod calls;
+mod names;
+
+pub use calls::{call_member, call_virtual, load_virtual_function, new_object};
+pub use names::{load_function, load_size, load_token};
