@@ -1,13 +1,8 @@
 -- How finished code lies to a clause that comes later in the table (ECMA-335, I.12.4.2.7 and III.1.7.5).
-use Rattle.std.specs.Prelude.{◌≡◌, ◌<◌, ◌≤◌, ◌⊎◌, ℕ, false}
+use Rattle.std.specs.Prelude.{◌≡◌, ◌≤◌, ◌⊎◌, ℕ, false}
 use Rattle.cil_model.specs.declared.body.Region.{Region}
 use Rattle.region_tree.specs.Nesting.{have_same_try, is_misplaced}
-
--- both parts of a clause have code, and the handler stands behind the try
-pub record HasParts (r : Region) : Type 0 where
-  pub has_try : r.try_from < r.try_to
-  pub is_behind : r.try_to ≤ r.handler_from
-  pub has_handler : r.handler_from < r.handler_to
+pub use Rattle.region_tree.specs.Order.{HasParts}
 
 -- The code between two places lies whole in a part of a clause, or outside of both.
 pub data LiesWhole (r : Region) (from to : ℕ) : Type 0 where

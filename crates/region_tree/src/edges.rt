@@ -11,7 +11,7 @@ use il_flow::falls_through;
 use il_opcodes::{Class, find_opcode};
 
 #[tactic(auto, unfolding(il_opcodes::specs::Opcodes::class_of))]
-fn class_of(op: u16) -> Class
+pub(crate) fn class_of(op: u16) -> Class
     ensures { result ≡ class_of op }
 {
     match find_opcode(op) {
@@ -20,7 +20,7 @@ fn class_of(op: u16) -> Class
     }
 }
 
-fn is_ret(class: Class) -> bool
+pub(crate) fn is_ret(class: Class) -> bool
     ensures { result ≡ is_ret class }
 {
     match class {
@@ -29,7 +29,7 @@ fn is_ret(class: Class) -> bool
     }
 }
 
-fn is_leave(class: Class) -> bool
+pub(crate) fn is_leave(class: Class) -> bool
     ensures { result ≡ is_leave class }
 {
     match class {
@@ -50,14 +50,14 @@ fn in_handler(region: &Region, at: u32) -> bool
     region.handler_from <= at && at < region.handler_to
 }
 
-fn goes_out(region: &Region, at: u32, to: u32) -> bool
+pub(crate) fn goes_out(region: &Region, at: u32, to: u32) -> bool
     ensures { result ≡ goes_out region.now at to }
 {
     (in_try(region, at) && !in_try(region, to))
         || (in_handler(region, at) && !in_handler(region, to))
 }
 
-fn goes_in(region: &Region, at: u32, to: u32) -> bool
+pub(crate) fn goes_in(region: &Region, at: u32, to: u32) -> bool
     ensures { result ≡ goes_in region.now at to }
 {
     (in_handler(region, to) && !in_handler(region, at))
@@ -119,7 +119,7 @@ pub(crate) fn breaks_region(regions: &[Region], at: u32, i: &Instr) -> bool
     false
 }
 
-fn may_leave(region: &Region, at: u32) -> bool
+pub(crate) fn may_leave(region: &Region, at: u32) -> bool
     ensures { result ≡ may_leave region.now at }
 {
     if in_try(region, at) {
@@ -131,7 +131,7 @@ fn may_leave(region: &Region, at: u32) -> bool
     }
 }
 
-fn may_end(region: &Region, at: u32) -> bool
+pub(crate) fn may_end(region: &Region, at: u32) -> bool
     ensures { result ≡ may_end region.now at }
 {
     match &region.kind {
@@ -141,7 +141,7 @@ fn may_end(region: &Region, at: u32) -> bool
     }
 }
 
-fn may_rethrow(region: &Region, at: u32) -> bool
+pub(crate) fn may_rethrow(region: &Region, at: u32) -> bool
     ensures { result ≡ may_rethrow region.now at }
 {
     match &region.kind {

@@ -1,15 +1,18 @@
 // The first rule on regions that a body breaks.
-ghost use Rattle.std.specs.Prelude.{◌≡◌, ◌<◌, ◌^◌, length, map, IfOk, MatchOption, None};
-ghost use Rattle.std.specs.List.{enumerate_from};
+ghost use Rattle.std.specs.Prelude.{◌≡◌, ◌<◌, ◌^◌, length, map, true, IfOk, MatchOption, None};
+ghost use Rattle.std.specs.List.{enumerate_from, list_any};
 ghost use Rattle.cil_base.specs.Refusals.{First, NoneBroken};
 ghost use Rattle.il_flow.specs.Lowest.{lowest};
 ghost use Rattle.region_tree.specs.Nesting.{depths_of};
+ghost use Rattle.region_tree.specs.Extents.{KeepsControl};
 ghost use Rattle.region_tree.specs.Rules.{BreaksControl, edge_test, end_test, filter_test, is_filter, nesting_test, the_tests};
 
 use crate::edges::{breaks_region, is_out_of_place};
 use crate::nesting::{breaks_nesting, depths_of};
+use crate::order::stand_in_order;
+use crate::plain::is_code_plain;
 use cil_base::{Place, Refusal, Rule};
-use cil_model::{Body, RegionKind};
+use cil_model::{Body, Instr, Region, RegionKind};
 use il_flow::{lowered, offset_of};
 use std::alloc::{AllocError, Global};
 
@@ -103,6 +106,32 @@ fn lowest_fault(body: &Body, depths: &[usize], place: Place) -> Option<Refusal>
     end_fault(body, place, edge)
 }
 
+fn any_filter(regions: &[Region]) -> bool
+    ensures { result ≡ list_any (λ r. is_filter r.kind) regions.now }
+{
+    for region in regions {
+        if is_filter(&region.kind) {
+            return true;
+        }
+    }
+    false
+}
+
+/// Whether a body is found to break none of X1 to X4, in one pass over its table and its code. A table
+/// in an unusual order isn't looked at.
+fn is_plain(alloc: Global, regions: &[Region], instrs: &[Instr]) -> Result<bool, AllocError>
+    requires { length instrs.now < 2 ^ 32 }
+    ensures { IfOk result (λ b. b ≡ true → KeepsControl regions.now instrs.now) }
+{
+    if regions.len() >= u32::MAX as usize || any_filter(regions) {
+        return Ok(false);
+    }
+    if !stand_in_order(alloc, regions)? {
+        return Ok(false);
+    }
+    is_code_plain(alloc, regions, instrs)
+}
+
 /// The first of X1 to X4 that a body breaks, at the offset of the region's try or of the instruction
 /// (ECMA-335, III.1.7.5).
 #[tactic(auto, using(crate::proofs::ControlLaws::first_broken))]
@@ -114,7 +143,12 @@ pub fn control_fault(
     requires { length body.now.instrs < 2 ^ 32 }
     ensures { IfOk result (λ fault. MatchOption fault (NoneBroken (BreaksControl place body.now)) (First (BreaksControl place body.now))) }
 {
-    let depths = depths_of(alloc, body.regions.as_slice())?;
+    let regions = body.regions.as_slice();
+    let plain = is_plain(alloc, regions, body.instrs.as_slice())?;
+    if plain {
+        return Ok(None);
+    }
+    let depths = depths_of(alloc, regions)?;
     let fault = lowest_fault(body, &depths, place);
     Ok(fault)
 }
