@@ -120,7 +120,7 @@ count_mapped f [] [] h = refl
 count_mapped f [] (y ∷ ys) h = absurd cc
 count_mapped f (x ∷ xs) ys h = mapped_more x xs ys (f x) (map_all f xs) h (λ zs e. count_mapped f xs zs e)
 
-stands_few : (a : ℕ) (bytes : List ℕ) (b : Body) (len : ℕ) → StandsFor a bytes b len → length b.instrs ≤ length bytes
+pub stands_few : (a : ℕ) (bytes : List ℕ) (b : Body) (len : ℕ) → StandsFor a bytes b len → length b.instrs ≤ length bytes
 stands_few a bytes b len s =
     let h = s.layout.header in
     let read : length s.stands.raw ≤ length (code_of bytes h) = count_read a 0 (code_of bytes h) s.stands.raw b.offsets h.code_size [] s.stands.reads in

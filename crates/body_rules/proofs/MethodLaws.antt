@@ -20,7 +20,8 @@ use Rattle.cil_model.specs.ValidBody.{IsSmallToken, IsValid}
 use Rattle.il_code.proofs.BodyLaws.{once}
 use Rattle.pe_image.specs.Sections.{tail_at}
 use Rattle.method_bodies.specs.Bodies.{FaultAt, IsBodyAt, StandsAt}
-use Rattle.body_rules.specs.Faults.{CodeFault, IsRead, IsReadAt, MethodFault, TellsFaultOf, plain}
+use Rattle.method_bodies.specs.Plain.{IsPlain}
+use Rattle.body_rules.specs.Faults.{CodeFault, IsRead, IsReadAt, IsSound, MethodFault, TellsFaultOf, plain}
 use Rattle.body_rules.proofs.SearchLaws.{some_is}
 use Rattle.body_rules.proofs.CodeLaws.{code_once}
 
@@ -83,13 +84,23 @@ pub small_locals : (a : ℕ) (body : Option Body) → IfSome body (IsValid a) �
 small_locals a None h = tt
 small_locals a (Some b) h = h.locals
 
+pub read_plain : (image : List ℕ) (a rva : ℕ) (body : Option Body) → IsRead image a rva body → IfSome body IsPlain
+read_plain image a rva None h = tt
+read_plain image a rva (Some b) h = h.locals
+
+-- code of which no fault is told breaks no rule
+pub sound_told : (p : Program) (own : MethodDesc) (place : Place) (body : Option Body) (o : Option Refusal) (at : Place) → at ≡ place → TellsFaultOf p own at body o → o ≡ None → IsSound p own place body
+sound_told p own place None o at e h is = tt
+sound_told p own place (Some b) o at e h is =
+    subst (λ (x : Place). NoneBroken (CodeFault p own x b)) e (subst (λ (f : Option Refusal). TellsFaultOf p own at (Some b) f) is h)
+
 pub body_read : (image : List ℕ) (a rva : ℕ) (body : Option Body) → IsRead image a rva body → IsBodyAt image a rva body
 body_read image a rva None h = h
 body_read image a rva (Some b) h = h.stands
 
 -- ---- one body stands at an RVA
 
-same_body : (x y : Body) → IsSame x y → x.locals ≡ y.locals → x ≡ y
+pub same_body : (x y : Body) → IsSame x y → x.locals ≡ y.locals → x ≡ y
 same_body x y s l =
     let B : List Instr → List ℕ → List Region → Option Token → ℕ → Bool → Body = λ instrs offsets regions locals max_stack init.
     record { instrs = instrs; offsets = offsets; regions = regions; locals = locals; max_stack = max_stack; init = init } in
@@ -101,7 +112,7 @@ same_body x y s l =
     ∙ ap (λ v. B y.instrs y.offsets y.regions y.locals y.max_stack v) s.init
 
 module _ (image : List ℕ) (a rva : ℕ) where
-  one_body : (x y : Body) → IsReadAt image a rva x → IsReadAt image a rva y → y ≡ x
+  pub one_body : (x y : Body) → IsReadAt image a rva x → IsReadAt image a rva y → y ≡ x
   one_body x y h g =
       let at = h.stands.1 in
       let other = g.stands.1 in

@@ -21,8 +21,9 @@ use Rattle.member_table.specs.declared.named.MemberId.TheVariants as id
 use Rattle.descriptions.specs.Descriptions.{method_desc}
 use Rattle.descriptions.specs.Programs.{program_of}
 use Rattle.method_bodies.specs.Bodies.{IsBodyAt}
+use Rattle.method_bodies.specs.Plain.{IsPlain}
 use Rattle.method_bodies.specs.Rows.{AreBodies, method_place, rva_of}
-use Rattle.body_rules.specs.Sets.{AreAllBodies, BreaksBodies, FaultInRow, InAssembly, InRow}
+use Rattle.body_rules.specs.Sets.{AreAllBodies, AreReadBodies, BreaksBodies, FaultInRow, InAssembly, InRow, IsSoundAt}
 use Rattle.body_rules.proofs.CodeLaws.{first_of_one}
 use Rattle.body_rules.proofs.MethodLaws.{fault_is_one}
 use Rattle.body_rules.proofs.PlaceLaws.{IsAt, fault_at}
@@ -166,6 +167,8 @@ pub record SoFar (s : Assemblies) (a k : ℕ) (bodies : List (Option Body)) : Ty
   pub count : length bodies ≡ k
   pub rows : (row : ℕ) → 1 ≤ row → row ≤ k → IsBodyAt (assembly_at s a).bytes a (rva_of (assembly_at s a) row) (get_or bodies (row - 1) None)
   pub valid : (row : ℕ) → 1 ≤ row → row ≤ k → IfSome (get_or bodies (row - 1) None) (IsValid a)
+  pub plain : (row : ℕ) → 1 ≤ row → row ≤ k → IfSome (get_or bodies (row - 1) None) IsPlain
+  pub sound : (row : ℕ) → 1 ≤ row → row ≤ k → IsSoundAt s a row (get_or bodies (row - 1) None)
   pub none : RowsSoFar s a k
 
 pub none_yet : (s : Assemblies) (a : ℕ) → SoFar s a 0 []
@@ -173,6 +176,8 @@ none_yet s a = record {
   count = refl;
   rows = λ row low high. absurd (omega (arith, low, high));
   valid = λ row low high. absurd (omega (arith, low, high));
+  plain = λ row low high. absurd (omega (arith, low, high));
+  sound = λ row low high. absurd (omega (arith, low, high));
   none = no_row_yet s a;
 }
 
@@ -188,12 +193,16 @@ module _ (s : Assemblies) (a k : ℕ) (bodies : List (Option Body)) (h : SoFar s
           let same : k + 1 ≡ row = omega (arith, over, high) in
           subst P same last
 
-  pub one_more : (bodies' : List (Option Body)) (body : Option Body) → bodies' ≡ bodies ++ body ∷ [] → IsBodyAt (assembly_at s a).bytes a (rva_of (assembly_at s a) (k + 1)) body → IfSome body (IsValid a) → NoneBroken (InRow s a (k + 1)) → SoFar s a (k + 1) bodies'
-  one_more bodies' body e stands valid none = record {
+  pub one_more : (bodies' : List (Option Body)) (body : Option Body) → bodies' ≡ bodies ++ body ∷ [] → IsBodyAt (assembly_at s a).bytes a (rva_of (assembly_at s a) (k + 1)) body → IfSome body (IsValid a) → IfSome body IsPlain → IsSoundAt s a (k + 1) body → NoneBroken (InRow s a (k + 1)) → SoFar s a (k + 1) bodies'
+  one_more bodies' body e stands valid plain sound none = record {
     count = ap length e ∙ length-append bodies (body ∷ []) ∙ ap (λ (n : ℕ). n + 1) h.count;
     rows = by_row (λ row. IsBodyAt (assembly_at s a).bytes a (rva_of (assembly_at s a) row) (get_or bodies' (row - 1) None)) last before;
     valid = by_row (λ row. IfSome (get_or bodies' (row - 1) None) (IsValid a)) (subst (λ (o : Option Body). IfSome o (IsValid a)) (sym at_end) valid)
         (λ row low high. subst (λ (o : Option Body). IfSome o (IsValid a)) (kept row low high) (h.valid row low high));
+    plain = by_row (λ row. IfSome (get_or bodies' (row - 1) None) IsPlain) (subst (λ (o : Option Body). IfSome o IsPlain) (sym at_end) plain)
+        (λ row low high. subst (λ (o : Option Body). IfSome o IsPlain) (kept row low high) (h.plain row low high));
+    sound = by_row (λ row. IsSoundAt s a row (get_or bodies' (row - 1) None)) (subst (IsSoundAt s a (k + 1)) (sym at_end) sound)
+        (λ row low high. subst (IsSoundAt s a row) (kept row low high) (h.sound row low high));
     none = row_more s a k h.none none;
   }
     where
@@ -212,8 +221,12 @@ module _ (s : Assemblies) (a k : ℕ) (bodies : List (Option Body)) (h : SoFar s
       before : (row : ℕ) → 1 ≤ row → row ≤ k → IsBodyAt (assembly_at s a).bytes a (rva_of (assembly_at s a) row) (get_or bodies' (row - 1) None)
       before row low high = subst (IsBodyAt (assembly_at s a).bytes a (rva_of (assembly_at s a) row)) (kept row low high) (h.rows row low high)
 
-  pub all_rows : k ≡ count_in (assembly_at s a) METHOD_DEF → AreBodies (assembly_at s a) (assembly_at s a).bytes a bodies
-  all_rows e = record { count = h.count ∙ e; rows = λ row low high. h.rows row low (omega (arith, high, e)); valid = λ row low high. h.valid row low (omega (arith, high, e)) }
+  pub all_rows : k ≡ count_in (assembly_at s a) METHOD_DEF → AreReadBodies s a bodies
+  all_rows e = record {
+    are = record { count = h.count ∙ e; rows = λ row low high. h.rows row low (omega (arith, high, e)); valid = λ row low high. h.valid row low (omega (arith, high, e)) };
+    plain = λ row low high. h.plain row low (omega (arith, high, e));
+    sound = λ row low high. h.sound row low (omega (arith, high, e));
+  }
 
   pub none_of_rows : k ≡ count_in (assembly_at s a) METHOD_DEF → NoneBroken (InAssembly s a)
   none_of_rows e = no_row s a k h.none e
@@ -225,7 +238,7 @@ module _ (s : Assemblies) (a k : ℕ) (bodies : List (Option Body)) (h : SoFar s
 
 pub record AllSoFar (s : Assemblies) (k : ℕ) (all : List (Vec (Option Body) Global)) : Type 0 where
   pub count : length all ≡ k
-  pub each : (a : ℕ) → a < k → (bodies : Vec (Option Body) Global) → slice_get all a ≡ Some bodies → AreBodies (assembly_at s a) (assembly_at s a).bytes a bodies.items
+  pub each : (a : ℕ) → a < k → (bodies : Vec (Option Body) Global) → slice_get all a ≡ Some bodies → AreReadBodies s a bodies.items
   pub none : SetSoFar s k
 
 pub none_of_set : (s : Assemblies) → AllSoFar s 0 []
@@ -235,14 +248,14 @@ module _ (s : Assemblies) (k : ℕ) (all : List (Vec (Option Body) Global)) (h :
   some_same : (x y : Vec (Option Body) Global) (o : Option (Vec (Option Body) Global)) → o ≡ Some x → o ≡ Some y → x ≡ y
   some_same x y o e f = let g : let q : Option _ = Some x in q ≡ Some y = sym e ∙ f in cc
 
-  pub one_assembly : (all' : List (Vec (Option Body) Global)) (bodies : Vec (Option Body) Global) → all' ≡ all ++ bodies ∷ [] → AreBodies (assembly_at s k) (assembly_at s k).bytes k bodies.items → NoneBroken (InAssembly s k) → AllSoFar s (k + 1) all'
+  pub one_assembly : (all' : List (Vec (Option Body) Global)) (bodies : Vec (Option Body) Global) → all' ≡ all ++ bodies ∷ [] → AreReadBodies s k bodies.items → NoneBroken (InAssembly s k) → AllSoFar s (k + 1) all'
   one_assembly all' bodies e are none = record {
     count = ap length e ∙ length-append all (bodies ∷ []) ∙ ap (λ (n : ℕ). n + 1) h.count;
     each = λ a below other at. go a below other at (nat_lt a k) refl;
     none = assembly_more s k h.none none;
   }
     where
-      go : (a : ℕ) → a < k + 1 → (other : Vec (Option Body) Global) → slice_get all' a ≡ Some other → (b : Bool) → nat_lt a k ≡ b → AreBodies (assembly_at s a) (assembly_at s a).bytes a other.items
+      go : (a : ℕ) → a < k + 1 → (other : Vec (Option Body) Global) → slice_get all' a ≡ Some other → (b : Bool) → nat_lt a k ≡ b → AreReadBodies s a other.items
       go a below other at true t =
           let less : a < k = search (rules, t) in
           let within : a < length all = omega (arith, less, h.count) in
@@ -252,7 +265,7 @@ module _ (s : Assemblies) (k : ℕ) (all : List (Vec (Option Body) Global)) (h :
           let same : k ≡ a = omega (arith, from, below) in
           let here : slice_get all' k ≡ Some bodies = ap (λ (l : List (Vec (Option Body) Global)). slice_get l k) e ∙ ap (slice_get (all ++ bodies ∷ [])) (sym h.count) ∙ slice_get_last all bodies in
           let is : bodies ≡ other = some_same bodies other (slice_get all' k) here (subst (λ (x : ℕ). slice_get all' x ≡ Some other) (sym same) at) in
-          subst (λ (x : ℕ). AreBodies (assembly_at s x) (assembly_at s x).bytes x other.items) same (subst (λ (v : Vec (Option Body) Global). AreBodies (assembly_at s k) (assembly_at s k).bytes k v.items) is are)
+          subst (λ (x : ℕ). AreReadBodies s x other.items) same (subst (λ (v : Vec (Option Body) Global). AreReadBodies s k v.items) is are)
 
   pub all_assemblies : k ≡ length s → AreAllBodies s all
   all_assemblies e = record { count = h.count ∙ e; each = λ a bodies at. h.each a (within a bodies at) bodies at }

@@ -1,5 +1,5 @@
 -- What the body of a method breaks first (ECMA-335, II.25.4 and III.1.7).
-use Rattle.std.specs.Prelude.{◌≡◌, ℕ, List, Option, Some, None, MatchOption}
+use Rattle.std.specs.Prelude.{◌≡◌, ℕ, List, Option, Some, None, MatchOption, IfSome}
 use Rattle.cil_base.specs.declared.refusal.Place.{Place}
 use Rattle.cil_base.specs.declared.refusal.Refusal.{Refusal}
 use Rattle.cil_base.specs.Refusals.{First, InTurn, NoneBroken}
@@ -12,11 +12,12 @@ use Rattle.il_flow.specs.Meanings.{BreaksMeaning}
 use Rattle.il_flow.specs.Methods.{BreaksHeights}
 use Rattle.region_tree.specs.Rules.{BreaksControl}
 use Rattle.method_bodies.specs.Bodies.{FaultAt, IsBodyAt}
+use Rattle.method_bodies.specs.Plain.{IsPlain}
 
 -- The body at an RVA as it is read. A locals token of 0 says that there are none, II.25.4.3.
 pub record IsReadAt (image : List ℕ) (a rva : ℕ) (b : Body) : Type 0 where
   pub stands : IsBodyAt image a rva (Some b)
-  pub locals : b.locals ≡ locals_of (locals_number b.locals)
+  pub locals : IsPlain b
 
 -- The body of a method with an RVA as it is read; none where the RVA is 0.
 abbrev pub IsRead : List ℕ → ℕ → ℕ → Option Body → Type 0
@@ -34,6 +35,10 @@ CodeFault p own place b = InTurn (BreaksMeaning p own place b) (InTurn (BreaksHe
 -- What the body of a method with an RVA breaks first: I5, I1 and I2, I3, and where none of these is broken a rule of its code.
 abbrev pub MethodFault : List ℕ → Place → ℕ → Program → MethodDesc → Refusal → Type 0
 MethodFault image place rva p own = InTurn (FaultAt image place rva) (λ r. (b : Body) × IsReadAt image place.assembly rva b × CodeFault p own place b r)
+
+-- The code of a body that may be missing breaks none of these rules.
+abbrev pub IsSound : Program → MethodDesc → Place → Option Body → Type 0
+IsSound p own place body = IfSome body (λ b. NoneBroken (CodeFault p own place b))
 
 -- The code breaks neither I6 nor I4, or this is the first.
 abbrev pub TellsFlow : Program → MethodDesc → Place → Body → Option Refusal → Type 0

@@ -4,8 +4,9 @@ ghost use Rattle.cil_base.specs.Refusals.{NoneBroken, OnRefused};
 ghost use Rattle.cil_base.specs.declared.refusal.Refusal.{Refusal};
 ghost use Rattle.cil_model.specs.ValidBody.{IsValid};
 ghost use Rattle.method_bodies.specs.Bodies.{IsBodyAt};
+ghost use Rattle.method_bodies.specs.Plain.{IsPlain};
 ghost use Rattle.method_bodies.specs.Rows.{method_place, rva_of};
-ghost use Rattle.body_rules.specs.Faults.{MethodFault};
+ghost use Rattle.body_rules.specs.Faults.{IsSound, MethodFault};
 
 use crate::code::body_fault;
 use crate::reading::read_method;
@@ -41,6 +42,8 @@ pub fn checked_body(
     requires { length image.now.bytes < 2 ^ 32 }
     ensures body { IfOk result (IsBodyAt image.now.bytes a (rva_of rows.now row)) }
     ensures valid { IfOk result (λ read. IfSome read (IsValid a)) }
+    ensures plain { IfOk result (λ read. IfSome read IsPlain) }
+    ensures sound { IfOk result (IsSound program.now own.now (method_place a row)) }
     ensures accepted { OnOk result (NoneBroken (MethodFault image.now.bytes (method_place a row) (rva_of rows.now row) program.now own.now)) }
     ensures broken { OnRefused result (MethodFault image.now.bytes (method_place a row) (rva_of rows.now row) program.now own.now) }
     // It is the only one.

@@ -7,8 +7,9 @@ ghost use Rattle.member_table.specs.declared.named.MemberId.TheVariants as id;
 ghost use Rattle.descriptions.specs.Descriptions.{method_desc};
 ghost use Rattle.descriptions.specs.Programs.{program_of};
 ghost use Rattle.method_bodies.specs.Bodies.{IsBodyAt};
-ghost use Rattle.method_bodies.specs.Rows.{AreBodies, rva_of};
-ghost use Rattle.body_rules.specs.Sets.{InAssembly, InRow};
+ghost use Rattle.method_bodies.specs.Plain.{IsPlain};
+ghost use Rattle.method_bodies.specs.Rows.{rva_of};
+ghost use Rattle.body_rules.specs.Sets.{AreReadBodies, InAssembly, InRow, IsSoundAt};
 
 use crate::method::checked_body;
 use cil_base::Fault;
@@ -55,6 +56,8 @@ fn row_body(
     requires high { row ≤ count_in (assembly_at tables.now a) METHOD_DEF }
     ensures body { IfOk result (IsBodyAt (assembly_at tables.now a).bytes a (rva_of (assembly_at tables.now a) row)) }
     ensures valid { IfOk result (λ read. IfSome read (IsValid a)) }
+    ensures plain { IfOk result (λ read. IfSome read IsPlain) }
+    ensures sound { IfOk result (IsSoundAt tables.now a row) }
     ensures accepted { OnOk result (NoneBroken (InRow tables.now a row)) }
     ensures refused { OnRefused result (First (InRow tables.now a row)) }
 {
@@ -86,7 +89,7 @@ pub fn assembly_bodies(
     requires rows { rows.now ≡ assembly_at tables.now a }
     requires image { image.now.bytes ≡ (assembly_at tables.now a).bytes }
     requires program { program.now ≡ program_of tables.now }
-    ensures bodies { IfOk result (λ v. AreBodies (assembly_at tables.now a) (assembly_at tables.now a).bytes a v.items) }
+    ensures bodies { IfOk result (λ v. AreReadBodies tables.now a v.items) }
     ensures accepted { OnOk result (NoneBroken (InAssembly tables.now a)) }
     ensures refused { OnRefused result (First (InAssembly tables.now a)) }
 {

@@ -5,8 +5,7 @@ ghost use Rattle.pe_image.specs.Images.{File};
 ghost use Rattle.set_rows.specs.Sets.{assembly_at, assembly_of};
 ghost use Rattle.set_program.specs.Files.{assemblies_of};
 ghost use Rattle.descriptions.specs.Programs.{program_of};
-ghost use Rattle.method_bodies.specs.Rows.{AreBodies};
-ghost use Rattle.body_rules.specs.Sets.{AreAllBodies, BreaksBodies, InAssembly};
+ghost use Rattle.body_rules.specs.Sets.{AreAllBodies, AreReadBodies, BreaksBodies, InAssembly};
 
 use crate::rows::{assembly_bodies, check_rows};
 use assembly::Assembly;
@@ -28,7 +27,7 @@ fn bodies_of(
     requires there { a < length tables.now }
     requires assembly { assembly_at tables.now a ≡ assembly_of assembly.now.bytes }
     requires program { program.now ≡ program_of tables.now }
-    ensures bodies { IfOk result (λ v. AreBodies (assembly_at tables.now a) (assembly_at tables.now a).bytes a v.items) }
+    ensures bodies { IfOk result (λ v. AreReadBodies tables.now a v.items) }
     ensures accepted { OnOk result (NoneBroken (InAssembly tables.now a)) }
     ensures refused { OnRefused result (First (InAssembly tables.now a)) }
 {

@@ -15,7 +15,7 @@ use Rattle.descriptions.specs.Programs.{program_of}
 use Rattle.descriptions.specs.WholePrograms.{without_body, BodyAt, IsProgramOf}
 use Rattle.method_bodies.specs.Rows.{HasCode, code_in, rva_of}
 use Rattle.method_bodies.proofs.RowLaws.{has_code}
-use Rattle.program_bodies.specs.Filled.{AreSetBodies, EachOnce, body_of_cell, body_of_row, filled, given, row_of}
+use Rattle.program_bodies.specs.Filled.{AreSetBodies, EachOnce, HoldsBodies, body_of_cell, body_of_id, body_of_row, filled, given, row_of}
 use Rattle.program_bodies.proofs.FilledLaws.{Bodies}
 use Rattle.program_bodies.proofs.TakenLaws.{nothing_past, no_bodies}
 use Rattle.program_bodies.proofs.OnceLaws.{as_row, row_of_desc, rows_once}
@@ -33,15 +33,15 @@ by_row true o h = refl
 by_row false o h = h
 
 -- A row that isn't there has the RVA 0.
-no_rva : (x : Assembly) (row : ℕ) → count_in x METHOD_DEF < row → rva_of x row ≡ 0
+pub no_rva : (x : Assembly) (row : ℕ) → count_in x METHOD_DEF < row → rva_of x row ≡ 0
 no_rva x row h =
     let past : count_in x METHOD_DEF ≤ row - 1 = omega (arith, h) in
     by_row (row == 0) (slice_get (get_or (get_or x.tables METHOD_DEF []) 0 []) (row - 1)) (none_past (get_or (get_or x.tables METHOD_DEF []) 0 []) (row - 1) past)
 
-no_row : (x : Assembly) (row : ℕ) → (row == 0) ≡ true → rva_of x row ≡ 0
+pub no_row : (x : Assembly) (row : ℕ) → (row == 0) ≡ true → rva_of x row ≡ 0
 no_row x row e = ap (λ (b : Bool). or_zero (if b then None else slice_get (get_or (get_or x.tables METHOD_DEF []) 0 []) (row - 1))) e
 
-none_without : (a : ℕ) → count_in no_assembly METHOD_DEF ≡ 0
+pub none_without : (a : ℕ) → count_in no_assembly METHOD_DEF ≡ 0
 unfolding no_assembly
 none_without a = refl
 
@@ -149,3 +149,37 @@ with_bodies s bs p ds some is are full =
     let once : EachOnce (map row_of p.methods) = subst (λ (q : Program). EachOnce (map row_of q.methods)) (sym is) (once_of s some) in
     subst (λ (l : List MethodDesc). IsProgramOf (code_in s) s (record p { methods = l })) (sym (full once))
     (subst (λ (q : Program). IsProgramOf (code_in s) s (record q { methods = filled bs q.methods })) (sym is) (filled_program s bs are))
+
+-- ---- which body each method has
+
+module _ (s : Assemblies) (bs : Bodies) where
+  given_body : (m : MemberId) (o : Option Body) → (given (method_desc s m) o).body ≡ o
+  unfolding method_row
+  given_body (id.Row a row) None = refl
+  given_body (id.Row a row) (Some body) = refl
+  given_body (id.Outside m) None = refl
+  given_body (id.Outside m) (Some body) = refl
+
+  by_id : (m : MemberId) → body_of_cell bs (as_row m) ≡ body_of_id bs m
+  by_id (id.Row a row) = refl
+  by_id (id.Outside m) = refl
+
+  held_one : (m : MemberId) → (given (method_desc s m) (body_of_cell bs (row_of (method_desc s m)))).body ≡ body_of_id bs m
+  held_one m = given_body m (body_of_cell bs (row_of (method_desc s m))) ∙ ap (body_of_cell bs) (row_of_desc s m) ∙ by_id m
+
+  held_all : (ids : List MemberId) (k : ℕ) (m : MemberId) (d : MethodDesc) → slice_get ids k ≡ Some m → slice_get (filled bs (map (method_desc s) ids)) k ≡ Some d → d.body ≡ body_of_id bs m
+  held_all [] k m d e g = absurd cc
+  held_all (n ∷ ids) zero m d e g =
+      let same : n ≡ m = cc in
+      let is : given (method_desc s n) (body_of_cell bs (row_of (method_desc s n))) ≡ d = cc in
+      sym (ap (λ (f : MethodDesc). f.body) is) ∙ held_one n ∙ ap (body_of_id bs) same
+  held_all (n ∷ ids) (suc k) m d e g = held_all ids k m d e g
+
+  held : (ds : List MethodDesc) → ds ≡ filled bs (program_of s).methods → HoldsBodies s bs (record (program_of s) { methods = ds })
+  unfolding program_of
+  held ds e = λ k m d there at. held_all (member_ids s false) k m d there (sym (ap (λ (l : List MethodDesc). slice_get l k) e) ∙ at)
+
+pub held_bodies : (s : Assemblies) (bs : Bodies) (p : Program) (ds : List MethodDesc) → 0 < length s → p ≡ program_of s → (EachOnce (map row_of p.methods) → ds ≡ filled bs p.methods) → HoldsBodies s bs (record p { methods = ds })
+held_bodies s bs p ds some is full =
+    let once : EachOnce (map row_of p.methods) = subst (λ (q : Program). EachOnce (map row_of q.methods)) (sym is) (once_of s some) in
+    subst (λ (q : Program). HoldsBodies s bs (record q { methods = ds })) (sym is) (held s bs ds (full once ∙ ap (λ (q : Program). filled bs q.methods) is))

@@ -1,10 +1,14 @@
 -- The bodies of the MethodDef rows of a set, put into the methods of its program (ECMA-335, II.22.26).
-use Rattle.std.specs.Prelude.{◌≡◌, ℕ, ◌-◌, ◌<◌, ◌==◌, if◌then◌else◌, List, [], ◌∷◌, map, length, get_or, Option, Some, None}
+use Rattle.std.specs.Prelude.{◌≡◌, ℕ, ◌-◌, ◌<◌, ◌==◌, if◌then◌else◌, List, [], ◌∷◌, map, length, get_or, slice_get, false, Option, Some, None}
 use Rattle.cil_model.specs.declared.body.Body.{Body}
 use Rattle.cil_model.specs.declared.program.MethodDesc.{MethodDesc}
+use Rattle.cil_model.specs.declared.program.Program.{Program}
 use Rattle.cil_model.specs.MethodLists.{with_body_at}
 use Rattle.set_rows.specs.Sets.{Assemblies, assembly_at}
 use Rattle.set_program.specs.Numbering.{Cell}
+use Rattle.member_table.specs.declared.named.MemberId.{MemberId}
+use Rattle.member_table.specs.declared.named.MemberId.TheVariants as id
+use Rattle.member_table.specs.Numbers.{member_ids}
 use Rattle.method_bodies.specs.Rows.{AreBodies}
 
 -- of each assembly the bodies of its rows, by row from 0
@@ -20,6 +24,16 @@ body_of_row bodies row = if row == 0 then None else get_or bodies (row - 1) None
 abbrev pub body_of_cell : List (List (Option Body)) → Option Cell → Option Body
 body_of_cell bodies None = None
 body_of_cell bodies (Some c) = body_of_row (get_or bodies c.0 []) c.1
+
+-- the body that the lists have of a member
+abbrev pub body_of_id : List (List (Option Body)) → MemberId → Option Body
+body_of_id bodies (id.Row a row) = body_of_row (get_or bodies a []) row
+body_of_id bodies (id.Outside m) = None
+
+-- Each method of the program of a set has the body that the lists have of it.
+abbrev pub HoldsBodies : Assemblies → List (List (Option Body)) → Program → Type 0
+HoldsBodies s bodies p =
+    (k : ℕ) (m : MemberId) (d : MethodDesc) → slice_get (member_ids s false) k ≡ Some m → slice_get p.methods k ≡ Some d → d.body ≡ body_of_id bodies m
 
 -- the assembly and row of a method, if it isn't outside
 abbrev pub row_of : MethodDesc → Option Cell

@@ -6,7 +6,7 @@ ghost use Rattle.set_program.specs.Numbering.{Cell};
 ghost use Rattle.method_bodies.specs.Rows.{code_in};
 ghost use Rattle.descriptions.specs.Programs.{program_of};
 ghost use Rattle.descriptions.specs.WholePrograms.{IsProgramOf};
-ghost use Rattle.program_bodies.specs.Filled.{AreSetBodies, EachOnce, body_of_cell, body_of_row, filled, given_at, row_of};
+ghost use Rattle.program_bodies.specs.Filled.{AreSetBodies, EachOnce, HoldsBodies, body_of_cell, body_of_row, filled, given_at, row_of};
 
 use cil_model::{Body, MethodDescs, Program};
 
@@ -82,7 +82,8 @@ fn fill(methods: &mut MethodDescs, bodies: &mut Vec<Vec<Option<Body>>>)
 /// Moves the bodies of a set into the methods of its program; `bodies` has those of each assembly, by
 /// row from 0.
 pub fn set_bodies(program: &mut Program, bodies: Vec<Vec<Option<Body>>>)
-    ensures { (s : Assemblies) → 0 < length s → program.old ≡ program_of s → AreSetBodies s (map (λ v. v.items) bodies.items) → IsProgramOf (code_in s) s program.new }
+    ensures whole { (s : Assemblies) → 0 < length s → program.old ≡ program_of s → AreSetBodies s (map (λ v. v.items) bodies.items) → IsProgramOf (code_in s) s program.new }
+    ensures held { (s : Assemblies) → 0 < length s → program.old ≡ program_of s → HoldsBodies s (map (λ v. v.items) bodies.items) program.new }
 {
     let mut bodies = bodies;
     fill(&mut program.methods, &mut bodies);

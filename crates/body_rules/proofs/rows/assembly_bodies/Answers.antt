@@ -12,4 +12,4 @@ returns-in-Err-clause-refused c =
 
 pub loop-k-preserved : goal.loop-k-preserved
 loop-k-preserved c =
-    one_more c.args.tables.now c.args.a c.loop-k.k c.loop-k.bodies.items c.loop-k.invariant c.push_body.new.bodies.items c.in-Ok.body c.in_ok-push_body-in-Ok.ensures c.in-Ok.ensures.body c.in-Ok.ensures.valid c.in-Ok.ensures.accepted
+    one_more c.args.tables.now c.args.a c.loop-k.k c.loop-k.bodies.items c.loop-k.invariant c.push_body.new.bodies.items c.in-Ok.body c.in_ok-push_body-in-Ok.ensures c.in-Ok.ensures.body c.in-Ok.ensures.valid c.in-Ok.ensures.plain c.in-Ok.ensures.sound c.in-Ok.ensures.accepted

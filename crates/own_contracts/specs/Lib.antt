@@ -1,0 +1,4 @@
+pub mod Order
+pub mod Own
+pub mod Inherited
+pub mod Taken
