@@ -12,6 +12,7 @@ use look_ups::all_under;
 use std::alloc::{AllocError, Global};
 
 /// The types that stand for the parameters of a frame's type and of its method.
+#[derive(Clone, Copy)]
 pub struct Given<'a> {
     pub type_args: &'a [Ty],
     pub method_args: &'a [Ty],
