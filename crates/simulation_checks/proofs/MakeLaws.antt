@@ -65,7 +65,7 @@ abbrev tested : Name → List Ty → ℕ → ℕ → ℕ → List Ty → Bool
 tested name params flags home own ts =
     bytes_eq name (codes ".ctor") && (same_tys params ts && ((flags % 8 == 6) || (((flags % 8 == 3) || (flags % 8 == 5)) && (home == own))))
 
-found_each : {X : Type 0} (P : X → Type 0) (test : X → Bool) (xs : List X) (v : X) → Each P xs → find test xs ≡ Some v → P v × (test v ≡ true)
+pub found_each : {X : Type 0} (P : X → Type 0) (test : X → Bool) (xs : List X) (v : X) → Each P xs → find test xs ≡ Some v → P v × (test v ≡ true)
 found_each P test [] v h e = absurd (cc e)
 found_each {X} P test (x ∷ xs) v h e = by_test (λ q. found_each P test xs v h.1 q) (test x) refl e
   where
@@ -109,7 +109,7 @@ made_by p k u t m values fs w delegate core =
     ∙ ap (λ c. make_core p k u c t fs w (if is_outside p m then make_outside p k u t m values fs w else if is_some (method_of p m).body then make_own p k u t m values fs w else stuck w)) core
 
 -- the type of what is made is that of the failure
-made_is : (x : Failure) (t : Ty) → made_type x ≡ Some t → x.exception ≡ Some t
+pub made_is : (x : Failure) (t : Ty) → made_type x ≡ Some t → x.exception ≡ Some t
 made_is x t e = by_exception x.exception e
   where
     by_exception : (o : Option Ty) → option_and_then (λ u. if nests_little u then Some u else None) o ≡ Some t → o ≡ Some t
@@ -367,7 +367,7 @@ module _ (p : Program) (k : Contracts) (ms : List MethodDesc) (g : AddedNumbers)
             → To N (maybe (throw_outside p g k.settings.throwing X S1 ty text (H ∷ fs) v) (λ (d : ℕ × List Ty). maybe (S1.stops v) (λ (y : ℕ × List Value). S1.makes v ty y.0 y.1) (own_constructor p ty X.home text)) a)
             (maybe (throw_outside p' g k.settings.throwing X S2 ty text fs' (beside ss2 v)) (λ (d : ℕ × List Ty). maybe (S2.stops (beside ss2 v)) (λ (y : ℕ × List Value). S2.makes (beside ss2 v) ty y.0 y.1) (own_constructor p' ty X.home text)) a)
         by_set None s = made_outside kd ty text v ss2 bes e
-        by_set (Some d) s = made_here kd ty d s (r.exceptions h.method c gr j x (here_of h fs) ty d (z.stands).old refl z.plan z.piece kd (made_is X ty mt) s) text v ss2 bes e
+        by_set (Some d) s = made_here kd ty d s (r.exceptions h.method c gr j x (here_of h fs) ty d (z.stands).old refl z.plan z.piece kd (made_is X ty mt) s).0 text v ss2 bes e
 
     pub clause_done : Unwinding.An p k ms g r (failure_cost k p + N) (check p k g X o.holds (H ∷ fs) w (λ v. piece_over p k c gr j (with_local L h) fs v)) (from_here p k p' g r.types r.depths (mk h.method) h ex b' fs' w ss [])
     clause_done = Clausing.condition_ends p k ms g r c gr j q x h ex b' fs fs' w ss o z ch makes_alike

@@ -61,7 +61,7 @@ module _ (p : Program) (k : Contracts) (ms : List MethodDesc) (g : AddedNumbers)
   pub record ValidSequel (d : ℕ) (heap : List Object) (x : Failure) (fs : List Frame) (s : Sequel) : Type 0 where
     pub passes_so : (v : World) → WellFormedWorld Bs v → v.depth ≡ d → v.heap ≡ heap → Stays (s.passes v)
     pub throws_so : (v : World) (y : ℕ) → WellFormedWorld Bs v → v.depth ≡ d → Stays (s.throws v y)
-    pub makes_so : (v : World) (t : Ty) (text : Value) → x.kind ≡ kind.RequiresOf → made_type x ≡ Some t → WellFormedWorld Bs v → v.depth ≡ d → Stays (throw_exception p g k.settings.throwing x s t text fs v)
+    pub makes_so : (v : World) (t : Ty) (text : Value) → x.kind ≡ kind.RequiresOf → made_type x ≡ Some t → WellFormedValue Bs text → WellFormedWorld Bs v → v.depth ≡ d → Stays (throw_exception p g k.settings.throwing x s t text fs v)
     pub stops_so : (v : World) → Stays (s.stops v)
 
   module _ (d : ℕ) (heap : List Object) (x : Failure) (fs : List Frame) (s : Sequel) (a : ValidSequel d heap x fs s) (user : WellFormedValue Bs x.user) where
@@ -86,7 +86,7 @@ module _ (p : Program) (k : Contracts) (ms : List MethodDesc) (g : AddedNumbers)
       where
         by_type : (o : Option Ty) → made_type x ≡ o → Stays (maybe (s.stops w) (λ t. throw_exception p g k.settings.throwing x s t text fs w) o)
         by_type None q = a.stops_so w
-        by_type (Some t) q = a.makes_so w t text kd q ok e
+        by_type (Some t) q = a.makes_so w t text kd q ft ok e
     kinds_valid kind.Requires kd text w ft ok e h = throws_or_triggers text w ft ok e h k.settings.throwing
     kinds_valid kind.Ensures kd text w ft ok e h = throws_or_triggers text w ft ok e h k.settings.throwing
     kinds_valid kind.Throws kd text w ft ok e h = throws_or_triggers text w ft ok e h k.settings.throwing

@@ -122,7 +122,7 @@ module _ (p : Program) (k : Contracts) (ms : List MethodDesc) (g : AddedNumbers)
 
   -- the call that ends a clause
   pub clauses_end_valid : (c : Plan) (gr : Group) (j q : ℕ) (x : Piece) (i : Instr) (f : Frame) (fs : List Frame) (w : World) → plan_at k p f.method ≡ Some c → f.at ≡ InGroup gr j q → RunsHere p k ms g r f fs w
-      → ((o : Condition) → let l : Local = with_stack f.local o.rest in MakesValid p k ms g r (record { kind = x.clause.kind; exception = option_and_then (ref_type p (here_of f fs)) x.clause.exception; home = x.clause.home; user = o.user; label = x.clause.label }) (goes_on_from p k (record f { local = l } ∷ fs) (λ v. piece_over p k c gr j (record f { local = l }) fs v)) (record f { local = l } ∷ fs) w.depth)
+      → ((o : Condition) → WellFormedValues Bs o.rest → let l : Local = with_stack f.local o.rest in MakesValid p k ms g r (record { kind = x.clause.kind; exception = option_and_then (ref_type p (here_of f fs)) x.clause.exception; home = x.clause.home; user = o.user; label = x.clause.label }) (goes_on_from p k (record f { local = l } ∷ fs) (λ v. piece_over p k c gr j (record f { local = l }) fs v)) (record f { local = l } ∷ fs) w.depth)
       → Stays (end_clause p k g c gr j x i f fs w)
   clauses_end_valid c gr j q x i f fs w e at a made = by_condition (condition_in (has_message p i) f.local.stack) refl
     where
@@ -134,7 +134,7 @@ module _ (p : Program) (k : Contracts) (ms : List MethodDesc) (g : AddedNumbers)
       by_condition (Some y) s =
           let fine = condition_fine Bs (has_message p i) f.local.stack y a.top.frame.fine.stack s in
           let places = restacked p k ms g r f y.rest fs (places_of p k ms g r f fs a.top.frame a.top.as_named) fine.1 in
-          checks_valid (failure y) y.holds f (with_stack f.local y.rest) fs w (λ v. piece_over p k c gr j (record f { local = with_stack f.local y.rest }) fs v) a places refl fine.0 (λ v ok d h. piece_passes c gr j q f (with_stack f.local y.rest) fs w v e at a places refl ok d h) (made y)
+          checks_valid (failure y) y.holds f (with_stack f.local y.rest) fs w (λ v. piece_over p k c gr j (record f { local = with_stack f.local y.rest }) fs v) a places refl fine.0 (λ v ok d h. piece_passes c gr j q f (with_stack f.local y.rest) fs w v e at a places refl ok d h) (made y fine.1)
 
   -- an old value is captured
   pub captures_valid : (c : Plan) (gr : Group) (j q n : ℕ) (f : Frame) (s : List Value) (fs : List Frame) (w : World) → plan_at k p f.method ≡ Some c → f.at ≡ InGroup gr j q → RunsHere p k ms g r f fs w → WellFormedValues Bs s → Stays (capture p k c gr j n f s fs w)

@@ -113,7 +113,7 @@ module _ (p : Program) (k : Contracts) (ms : List MethodDesc) (g : AddedNumbers)
 
   -- where a failed Requires<E> makes its exception, what is made is valid
   abbrev pub MakesValid : Failure → Sequel → List Frame → ℕ → Type 0
-  MakesValid x s fs d = (v : World) (t : Ty) (text : Value) → x.kind ≡ kind.RequiresOf → made_type x ≡ Some t → WellFormedWorld Bs v → v.depth ≡ d → StaysValid p k ms g r (throw_exception p g k.settings.throwing x s t text fs v)
+  MakesValid x s fs d = (v : World) (t : Ty) (text : Value) → x.kind ≡ kind.RequiresOf → made_type x ≡ Some t → WellFormedValue Bs text → WellFormedWorld Bs v → v.depth ≡ d → StaysValid p k ms g r (throw_exception p g k.settings.throwing x s t text fs v)
 
   -- frames and world as a call outside leaves them
   pub record AfterCall (fs : List Frame) (w : World) (gs : List Frame) (w2 : World) : Type 0 where
@@ -256,7 +256,7 @@ module _ (p : Program) (k : Contracts) (ms : List MethodDesc) (g : AddedNumbers)
   abbrev pub ClausesEndValid : Type 0
   ClausesEndValid =
       (c : Plan) (gr : Group) (j q : ℕ) (x : Piece) (i : Instr) (f : Frame) (fs : List Frame) (w : World) → plan_at k p f.method ≡ Some c → f.at ≡ InGroup gr j q → RunsHere f fs w
-      → ((o : Condition) → let l : Local = with_stack f.local o.rest in MakesValid (record { kind = x.clause.kind; exception = option_and_then (ref_type p (here_of f fs)) x.clause.exception; home = x.clause.home; user = o.user; label = x.clause.label }) (goes_on_from p k (record f { local = l } ∷ fs) (λ v. piece_over p k c gr j (record f { local = l }) fs v)) (record f { local = l } ∷ fs) w.depth)
+      → ((o : Condition) → WellFormedValues Bs o.rest → let l : Local = with_stack f.local o.rest in MakesValid (record { kind = x.clause.kind; exception = option_and_then (ref_type p (here_of f fs)) x.clause.exception; home = x.clause.home; user = o.user; label = x.clause.label }) (goes_on_from p k (record f { local = l } ∷ fs) (λ v. piece_over p k c gr j (record f { local = l }) fs v)) (record f { local = l } ∷ fs) w.depth)
       → StaysValid p k ms g r (end_clause p k g c gr j x i f fs w)
 
   abbrev pub CapturesValid : Type 0

@@ -87,9 +87,9 @@ pub record Rewritten (p : Program) (k : Contracts) (ms : List MethodDesc) (g : A
   pub rooted : (t : Ty) → is_sub p t object_ty ≡ true
   -- a type of the input has methods of the input
   pub owned : (t : Ty) (w : World) (m : ℕ) → IsTrue (is_below types t) → Rattle.cil_semantics.specs.Frames.initializer p w t ≡ Rattle.cil_semantics.specs.Frames.ToRun m → m < methods
-  -- the exception that a failed Requires<E> of the set makes is of the input
+  -- the exception that a failed Requires<E> of the set makes is of the input, and no type argument of it is void where none of the frame's is
   pub exceptions : (m : ℕ) (plan : Plan) (gr : Group) (j : ℕ) (x : Piece) (here : Here) (t : Ty) (d : ℕ × List Ty) → m < methods → here.method ≡ m → plan_at k p m ≡ Some plan → piece_at (Some plan) gr j ≡ Some x → x.clause.kind ≡ kind.RequiresOf
-      → option_and_then (ref_type p here) x.clause.exception ≡ Some t → in_set (out-Ty t) ≡ Some d → IsOwnClass p types methods t
+      → option_and_then (ref_type p here) x.clause.exception ≡ Some t → in_set (out-Ty t) ≡ Some d → IsOwnClass p types methods t × (NoneVoid p here.type_args → NoneVoid p here.method_args → NoneVoid p (args_of t))
   -- what a token names for type arguments of which none is void
   pub names : (m : ℕ) (at : ProgramPoint) (i : Instr) (here : Here) → m < methods → here.method ≡ m → NoneVoid p here.type_args → NoneVoid p here.method_args → IsHere (plan_at k p m) at → fetch p k g (plan_at k p m) m at ≡ Some i → NamesInput p types methods (meaning_here p here i)
   -- a call that a token names of a core member describes it with the result that it has (ECMA-335, Partition IV)

@@ -32,7 +32,7 @@ use Rattle.cil_semantics.specs.Frames.{Initializer, initializer, initializer_sta
 use Rattle.cil_semantics.specs.Instructions.{act}
 use Rattle.cil_semantics.specs.Dispatch.{is_virtual, is_interface_kind, is_interface_at, is_interface}
 use Rattle.cil_semantics.specs.Core.{object_ty}
-use Rattle.cil_semantics.specs.Lookups.{contract_exception, no_method, in_set, type_of, method_of, is_sub}
+use Rattle.cil_semantics.specs.Lookups.{contract_exception, no_method, in_set, type_of, method_of, is_sub, args_of}
 use Rattle.cil_semantics.specs.Numbers as number
 use Rattle.cil_semantics.specs.Places.{Truncated, storage, stored_in}
 use Rattle.cil_semantics.specs.Numbers.{B32}
@@ -294,7 +294,7 @@ no_interface t = by_number (in_set (out-Ty t))
 
 -- no clause is a Requires<E>
 no_exceptions : (m : ℕ) (plan : Plan) (gr : Group) (j : ℕ) (x : Piece) (here : Here) (t : Ty) (d : ℕ × List Ty) → m < 2 → here.method ≡ m → plan_at contracts input m ≡ Some plan → piece_at (Some plan) gr j ≡ Some x → x.clause.kind ≡ kind.RequiresOf
-    → option_and_then (ref_type input here) x.clause.exception ≡ Some t → in_set (out-Ty t) ≡ Some d → IsOwnClass input 2 2 t
+    → option_and_then (ref_type input here) x.clause.exception ≡ Some t → in_set (out-Ty t) ≡ Some d → IsOwnClass input 2 2 t × (NoneVoid input here.type_args → NoneVoid input here.method_args → NoneVoid input (args_of t))
 unfolding everything
 no_exceptions zero plan gr j x here t d l me e s kd ex set =
     let same : the_plan ≡ plan = cc e in

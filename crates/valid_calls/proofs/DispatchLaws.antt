@@ -19,7 +19,7 @@ use Rattle.il_opcodes.specs.declared.class.Class.{Class}
 use Rattle.il_opcodes.specs.declared.class.Class.TheVariants as class
 use Rattle.cil_semantics.specs.Core.{Name}
 use Rattle.cil_semantics.specs.Places.{storage}
-use Rattle.cil_semantics.specs.Tokens.{meaning_here, own_meaning}
+use Rattle.cil_semantics.specs.Tokens.{meaning_here, own_meaning, ref_type}
 use Rattle.cil_semantics.specs.Contracted.{Piece, Plan}
 use Rattle.cil_semantics.specs.Unwind.{body_of, plan_at, piece_at, here_of}
 use Rattle.cil_semantics.specs.Frames.{if_there, load}
@@ -27,11 +27,13 @@ use Rattle.cil_semantics.specs.Calls.{pointed}
 use Rattle.cil_semantics.specs.ContractCalls.{contract_call, static_call, abbreviator_call}
 use Rattle.cil_semantics.specs.declared.contract_call.ContractCall.{ContractCall}
 use Rattle.cil_semantics.specs.declared.contract_call.ContractCall.TheVariants.{EndsClause, EndsBlock, Abbreviates, GivesResult, ReadsArgument, TakesOld, ChecksHere, NoContractCall}
-use Rattle.cil_semantics.specs.Checks.{AddedNumbers, recalled, inline_label, inline_number, capture}
+use Rattle.cil_semantics.specs.Checks.{AddedNumbers, Failure, Condition, goes_on_from, recalled, inline_label, inline_number, capture}
 use Rattle.cil_semantics.specs.Machine.{relocated, relocated_instr, run_plain, run_in_body, run_in_piece, read_argument, step_piece, step_body, step_at, step_frames, step}
 use Rattle.cil_semantics.specs.State.{Next, Running, Ended, unrecorded, goes_after, with_stack}
 use Rattle.cil_semantics.specs.declared.state.Frame.{Frame}
 use Rattle.cil_semantics.specs.declared.state.Item.{Item}
+use Rattle.cil_semantics.specs.declared.state.Local.{Local}
+use Rattle.cil_semantics.specs.Returns.{piece_over}
 use Rattle.cil_semantics.specs.declared.state.ProgramPoint.{ProgramPoint}
 use Rattle.cil_semantics.specs.declared.state.ProgramPoint.TheVariants.{LeadIn, InGroup, Rest}
 use Rattle.cil_semantics.specs.declared.state.World.{World}
@@ -40,14 +42,16 @@ use Rattle.splice_facts.specs.WellFormed.{WellFormedValue, WellFormedValues, Wel
 use Rattle.splice_facts.specs.Related.{Rewritten, HasHeight, bounds}
 use Rattle.splice_facts.specs.Input.{is_group}
 use Rattle.simulation_calls.proofs.InlineLaws.{call_checks}
+use Rattle.simulation_checks.proofs.MakeLaws.{made_is}
 use Rattle.simulation_valid.specs.Keeping.{StaysValid}
-use Rattle.simulation_valid.specs.Steps.{RunsHere, MayStep}
+use Rattle.simulation_valid.specs.Steps.{RunsHere, MayStep, MakesValid}
 use Rattle.simulation_valid.proofs.UnwindValidLaws.{places_of, restacked}
-use Rattle.simulation_valid.proofs.MoveValidLaws.{loads_valid}
+use Rattle.simulation_valid.proofs.MoveValidLaws.{loads_valid, relocal}
 use Rattle.simulation_valid.proofs.ClauseValidLaws.{clauses_end_valid, captures_valid, recalls_valid, results_valid, inline_checks_valid}
 use Rattle.simulation_valid.proofs.StepValidLaws.{steps_valid}
 use Rattle.valid_calls.specs.Steps.{IsAsked}
 use Rattle.valid_calls.proofs.CallStepLaws.{call_stays, new_stays}
+use Rattle.valid_calls.proofs.ExceptionValidLaws.{exceptions_valid}
 
 -- ---- a contract call names no local
 
@@ -130,6 +134,16 @@ module _ (p : Program) (k : Contracts) (ms : List MethodDesc) (g : AddedNumbers)
               (record { places = restacked p k ms g r f rest fs (places_of p k ms g r f fs a.top.frame a.top.as_named) fine.1; same = refl; height = λ plan old e1 outer. outer_never _ outer }) (h q1 refl)
       reads_valid _ s fine = tt
 
+      -- what a failed Requires<E> of a clause makes
+      made : (x : Piece) (o : Condition) → piece_at (Some c) gr j ≡ Some x → WellFormedValues (bounds p k ms g r) o.rest
+          → let l : Local = with_stack f.local o.rest in MakesValid p k ms g r (record { kind = x.clause.kind; exception = option_and_then (ref_type p (here_of f fs)) x.clause.exception; home = x.clause.home; user = o.user; label = x.clause.label }) (goes_on_from p k (record f { local = l } ∷ fs) (λ v. piece_over p k c gr j (record f { local = l }) fs v)) (record f { local = l } ∷ fs) w.depth
+      made x o there fine =
+          let l : Local = with_stack f.local o.rest in
+          let failure : Failure = record { kind = x.clause.kind; exception = option_and_then (ref_type p (here_of f fs)) x.clause.exception; home = x.clause.home; user = o.user; label = x.clause.label } in
+          exceptions_valid p k ms g r failure (λ v. piece_over p k c gr j (record f { local = l }) fs v) (record f { local = l }) fs w
+          (record { top = relocal p k ms g r f l fs w a.top (restacked p k ms g r f o.rest fs (places_of p k ms g r f fs a.top.frame a.top.as_named) fine) refl; here = a.here; placed = a.placed }) (ap is_group at)
+          (λ t d kd mt set. let y = r.exceptions f.method c gr j x (here_of f fs) t d a.top.frame.stands.old refl e there kd (made_is failure t mt) set in (y.0, y.1 a.top.as_named.2 a.top.as_named.3))
+
       piece_valid : (x : Piece) → piece_at (Some c) gr j ≡ Some x → Stays (step_piece p k g c gr j x q (recalled x q) f fs w)
       piece_valid x there = by_old (recalled x q)
         where
@@ -146,7 +160,7 @@ module _ (p : Program) (k : Contracts) (ms : List MethodDesc) (g : AddedNumbers)
           by_capture (Some n) = captures_valid p k ms g r c gr j q n f f.local.stack fs w e at a a.top.frame.fine.stack
 
           by_call : (i : Instr) → slice_get x.clause.instrs q ≡ Some i → (y : ContractCall) → contract_call p i ≡ y → Stays (run_in_piece p k g c gr j x y q i f fs w)
-          by_call i s (EndsClause kd) call = clauses_end_valid p k ms g r c gr j q x i f fs w e at a (λ o. asked.makes c gr j q x o e at there)
+          by_call i s (EndsClause kd) call = clauses_end_valid p k ms g r c gr j q x i f fs w e at a (λ o fine. made x o there fine)
           by_call i s GivesResult call = results_valid p k ms g r gr j q f fs w at a
           by_call i s ReadsArgument call = reads_valid (meaning_here p (here_of f fs) i) f.local.stack a.top.frame.fine.stack
           by_call i s TakesOld call = by_capture x.captures

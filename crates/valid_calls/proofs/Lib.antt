@@ -1,4 +1,5 @@
 mod MemberLaws
 mod NewValidLaws
+mod ExceptionValidLaws
 pub mod CallStepLaws
 pub mod DispatchLaws

@@ -42,7 +42,7 @@ use Rattle.simulation_valid.proofs.AskValidLaws.{stores_back, told}
 use Rattle.simulation_valid.proofs.EnterValidLaws.{enters_valid, enters_struct_valid}
 use Rattle.valid_calls.specs.Members.{MayMake}
 
-delegate_fine : (b : Bounds) (values : List Value) → WellFormedValues b values → WellFormedCells b (delegate_cells values)
+pub delegate_fine : (b : Bounds) (values : List Value) → WellFormedValues b values → WellFormedCells b (delegate_cells values)
 delegate_fine b [] h = tt
 delegate_fine b (v ∷ vs) h = (h.0, delegate_fine b vs h.1)
 
@@ -65,7 +65,7 @@ module _ (p : Program) (k : Contracts) (ms : List MethodDesc) (g : AddedNumbers)
   -- ---- outside
 
   -- a new value, with frames and world as the call leaves them
-  abbrev NewAnswer : List Frame → World → Answer → Type 0
+  abbrev pub NewAnswer : List Frame → World → Answer → Type 0
   NewAnswer fs w (Returned v gs w2) = AfterCall p k ms g r fs w gs w2 × WellFormedIf Bs v × (length (top_of v) ≡ 1)
   NewAnswer fs w (Threw x gs w2) = AfterCall p k ms g r fs w gs w2
   NewAnswer fs w (Unfit w2) = Unit {0}
@@ -104,7 +104,7 @@ module _ (p : Program) (k : Contracts) (ms : List MethodDesc) (g : AddedNumbers)
   results t m values (reply.Given v) back fs w u x ok a = tt
   results t m values (reply.Throw name) back fs w u x ok a = throws_out name fs x.0 w (recorded m values (reply.Throw name) back x.1) u (told p k ms g r m values (reply.Throw name) back fs w x ok a)
 
-  asks_new_valid : (t : Ty) (m : Member) (values : List Value) (fs : List Frame) (w : World) → WellFormedValues Bs values → WellFormedWorld Bs w → NewAnswer fs w (ask_new p t m values fs w)
+  pub asks_new_valid : (t : Ty) (m : Member) (values : List Value) (fs : List Frame) (w : World) → WellFormedValues Bs values → WellFormedWorld Bs w → NewAnswer fs w (ask_new p t m values fs w)
   unfolding ask_new
   asks_new_valid t m values fs w fv ok = by_cells (stored_args p m.params values) refl
     where

@@ -1,5 +1,5 @@
--- Calls of members and new objects in the run with contracts: what is known where they begin, and what then stays valid.
-use Rattle.std.specs.Prelude.{◌≡◌, ℕ, suc, ◌<◌, ◌≤◌, List, Some, IsTrue}
+-- Calls of members, new objects and the exceptions of Requires<E> in the run with contracts: what is known where they begin, and what then stays valid.
+use Rattle.std.specs.Prelude.{◌≡◌, ℕ, suc, ◌<◌, ◌≤◌, true, List, ◌∷◌, Some, IsTrue}
 use Rattle.cil_model.specs.declared.body.Instr.{Instr}
 use Rattle.il_opcodes.specs.Opcodes.{class_of}
 use Rattle.il_opcodes.specs.declared.class.Class.TheVariants as class
@@ -7,24 +7,26 @@ use Rattle.cil_semantics.specs.Tokens.{meaning_here}
 use Rattle.cil_semantics.specs.Unwind.{plan_at, here_of}
 use Rattle.cil_semantics.specs.Machine.{run_plain}
 use Rattle.splice_facts.specs.Layout.{fetch}
-use Rattle.cil_model.specs.declared.ty.Ty.{Ty}
+use Rattle.cil_model.specs.declared.ty.Ty.{Ty, out-Ty}
 use Rattle.cil_model.specs.declared.value.Value.{Value}
 use Rattle.cil_model.specs.declared.contract.Contracts.{Contracts}
 use Rattle.cil_model.specs.declared.program.Program.{Program}
 use Rattle.cil_model.specs.declared.program.MethodDesc.{MethodDesc}
-use Rattle.cil_semantics.specs.Lookups.{args_of}
+use Rattle.cil_model.specs.declared.contract.ClauseKind.TheVariants as kind
+use Rattle.cil_semantics.specs.Lookups.{args_of, in_set}
+use Rattle.cil_semantics.specs.State.{Next}
 use Rattle.cil_semantics.specs.declared.state.World.{World}
 use Rattle.cil_semantics.specs.declared.state.Frame.{Frame}
 use Rattle.cil_semantics.specs.declared.state.Continuation.TheVariants.{Push}
 use Rattle.cil_semantics.specs.Calls.{core_of, call_member, make, pushes_new}
-use Rattle.cil_semantics.specs.Checks.{AddedNumbers}
+use Rattle.cil_semantics.specs.Checks.{AddedNumbers, Failure, made_type, goes_on_from}
 use Rattle.machine_laws.specs.Answers.{is_below}
 use Rattle.splice_facts.specs.WellFormed.{NoneVoid, WellFormedValues, WellFormedWorld}
-use Rattle.splice_facts.specs.Input.{result_count}
+use Rattle.splice_facts.specs.Input.{result_count, is_group}
 pub use Rattle.splice_facts.specs.Input.{GivesAsDescribed, NamesGiving}
-use Rattle.splice_facts.specs.Related.{Rewritten, HasHeight, bounds, count_groups}
+use Rattle.splice_facts.specs.Related.{Rewritten, IsOwnClass, HasHeight, bounds, count_groups}
 use Rattle.simulation_valid.specs.Keeping.{StaysValid, ValidTail}
-use Rattle.simulation_valid.specs.Steps.{NextHeight, MayCall, RunsHere}
+use Rattle.simulation_valid.specs.Steps.{NextHeight, MayCall, RunsHere, MakesValid}
 
 module _ (p : Program) (k : Contracts) (ms : List MethodDesc) (g : AddedNumbers) (r : Rewritten p k ms g) where
   -- A call of the member that a token names: a core member, ForAll or Exists, one outside, or one with a body.
@@ -55,3 +57,10 @@ module _ (p : Program) (k : Contracts) (ms : List MethodDesc) (g : AddedNumbers)
   abbrev pub NewObjectsValid : Type 0
   NewObjectsValid =
       (t : Ty) (m : ℕ) (values : List Value) (fs : List Frame) (w : World) → m < r.methods → IsTrue (is_below r.types t) → NoneVoid p (args_of t) → WellFormedValues (bounds p k ms g r) values → MayMake fs w → StaysValid p k ms g r (make p k (pushes_new p k) t m values fs w)
+
+  -- The exception of a failed Requires<E>, from a frame in the group of the clause: E is outside, or an own class without void among its arguments. Its constructor may throw too.
+  abbrev pub ExceptionsValid : Type 0
+  ExceptionsValid =
+      (x : Failure) (passes : World → Next) (f : Frame) (fs : List Frame) (w : World) → RunsHere p k ms g r f fs w → is_group f.at ≡ true
+      → ((t : Ty) (d : ℕ × List Ty) → x.kind ≡ kind.RequiresOf → made_type x ≡ Some t → in_set (out-Ty t) ≡ Some d → IsOwnClass p r.types r.methods t × NoneVoid p (args_of t))
+      → MakesValid p k ms g r x (goes_on_from p k (f ∷ fs) passes) (f ∷ fs) w.depth

@@ -1,35 +1,27 @@
 -- A step of the run with contracts: what is asked of its state besides, and that what it comes to is valid.
-use Rattle.std.specs.Prelude.{◌≡◌, ℕ, List, ◌∷◌, Some, option_and_then}
+use Rattle.std.specs.Prelude.{◌≡◌, List, ◌∷◌, Some}
 use Rattle.cil_model.specs.declared.body.Instr.{Instr}
 use Rattle.cil_model.specs.declared.contract.Contracts.{Contracts}
-use Rattle.cil_model.specs.declared.contract.Group.{Group}
 use Rattle.cil_model.specs.declared.program.Program.{Program}
 use Rattle.cil_model.specs.declared.program.MethodDesc.{MethodDesc}
 use Rattle.il_opcodes.specs.Opcodes.{class_of}
 use Rattle.il_opcodes.specs.declared.class.Class.TheVariants as class
-use Rattle.cil_semantics.specs.Tokens.{ref_type}
-use Rattle.cil_semantics.specs.Contracted.{Piece, Plan}
-use Rattle.cil_semantics.specs.Unwind.{plan_at, piece_at, here_of}
-use Rattle.cil_semantics.specs.Returns.{piece_over}
-use Rattle.cil_semantics.specs.Checks.{AddedNumbers, Condition, goes_on_from}
+use Rattle.cil_semantics.specs.Unwind.{plan_at}
+use Rattle.cil_semantics.specs.Checks.{AddedNumbers}
 use Rattle.cil_semantics.specs.Machine.{run_plain, step}
-use Rattle.cil_semantics.specs.State.{unrecorded, with_stack}
+use Rattle.cil_semantics.specs.State.{unrecorded}
 use Rattle.cil_semantics.specs.declared.state.Frame.{Frame}
-use Rattle.cil_semantics.specs.declared.state.Local.{Local}
-use Rattle.cil_semantics.specs.declared.state.ProgramPoint.TheVariants.{InGroup}
 use Rattle.cil_semantics.specs.declared.state.World.{World}
 use Rattle.splice_facts.specs.Layout.{fetch}
 use Rattle.splice_facts.specs.Related.{Rewritten, HasHeight}
 use Rattle.simulation_valid.specs.Keeping.{StaysValid}
-use Rattle.simulation_valid.specs.Steps.{RunsHere, MakesValid}
+use Rattle.simulation_valid.specs.Steps.{RunsHere}
 
 module _ (p : Program) (k : Contracts) (ms : List MethodDesc) (g : AddedNumbers) (r : Rewritten p k ms g) where
-  -- what no law gives yet: virtual calls and ldvirtftn lead on validly, and so does the exception of Requires<E>
+  -- what no law gives yet: virtual calls and ldvirtftn lead on validly
   pub record IsAsked (f : Frame) (fs : List Frame) (w : World) : Type 0 where
     pub virtual : (i : Instr) → fetch p k g (plan_at k p f.method) f.method f.at ≡ Some i → class_of i.op ≡ class.CallVirtual → StaysValid p k ms g r (run_plain p k g i f fs w)
     pub functions : (i : Instr) → fetch p k g (plan_at k p f.method) f.method f.at ≡ Some i → class_of i.op ≡ class.LoadVirtualFunction → StaysValid p k ms g r (run_plain p k g i f fs w)
-    pub makes : (c : Plan) (gr : Group) (j q : ℕ) (x : Piece) (o : Condition) → plan_at k p f.method ≡ Some c → f.at ≡ InGroup gr j q → piece_at (Some c) gr j ≡ Some x
-        → let l : Local = with_stack f.local o.rest in MakesValid p k ms g r (record { kind = x.clause.kind; exception = option_and_then (ref_type p (here_of f fs)) x.clause.exception; home = x.clause.home; user = o.user; label = x.clause.label }) (goes_on_from p k (record f { local = l } ∷ fs) (λ v. piece_over p k c gr j (record f { local = l }) fs v)) (record f { local = l } ∷ fs) w.depth
 
   -- Each step from a valid state, wherever its topmost frame stands, comes to a valid one or ends.
   abbrev pub StepsStayValid : Type 0

@@ -2,6 +2,7 @@ use Rattle.valid_calls.proofs.calls_keep_valid.Goals as goal
 use Rattle.valid_calls.proofs.MemberLaws.{members_valid}
 use Rattle.valid_calls.proofs.NewValidLaws.{makes_valid}
 use Rattle.valid_calls.proofs.CallStepLaws.{call_stays, new_stays}
+use Rattle.valid_calls.proofs.ExceptionValidLaws.{exceptions_valid}
 
 pub returns-clause-members : goal.returns-clause-members
 returns-clause-members c = λ p k ms g r. members_valid p k ms g r
@@ -14,3 +15,6 @@ returns-clause-calling c = λ p k ms g r i f fs w a height found e gives. call_s
 
 pub returns-clause-making : goal.returns-clause-making
 returns-clause-making c = λ p k ms g r i f fs w a height found e. new_stays p k ms g r i f fs w a height found e
+
+pub returns-clause-exceptions : goal.returns-clause-exceptions
+returns-clause-exceptions c = λ p k ms g r. exceptions_valid p k ms g r
