@@ -2,4 +2,5 @@ pub mod LeadLaws
 pub mod SiteLaws
 pub mod CopyLaws
 pub mod JoinLaws
+pub mod EntryLaws
 pub mod RunLaws

@@ -1,5 +1,5 @@
 -- From single steps to whole runs.
-use Rattle.std.proofs.Common.{◌≡◌, ℕ, zero, suc, ◌+◌, ◌≤◌, List, refl, sym, ap, ◌∙◌, subst, arith}
+use Rattle.std.proofs.Common.{◌≡◌, ℕ, zero, suc, ◌+◌, ◌≤◌, ◌<◌, List, refl, sym, ap, ◌∙◌, subst, arith}
 use Rattle.cil_model.specs.declared.contract.Contracts.{Contracts}
 use Rattle.cil_model.specs.declared.program.Program.{Program}
 use Rattle.cil_model.specs.declared.program.MethodDesc.{MethodDesc}
@@ -9,7 +9,9 @@ use Rattle.cil_semantics.specs.declared.state.World.{World}
 use Rattle.cil_semantics.specs.State.{State, Next, Running, Ended}
 use Rattle.cil_semantics.specs.Checks.{AddedNumbers}
 use Rattle.cil_semantics.specs.Machine.{step, runs, start, and_then, unused_numbers}
-use Rattle.machine_laws.specs.Same.{bound_of, plain_step}
+use Rattle.cil_model.specs.declared.value.Value.{Value}
+use Rattle.cil_model.specs.declared.run.Reply.{Reply}
+use Rattle.machine_laws.specs.Same.{IsEntry, bound_of, plain_step}
 use Rattle.machine_laws.specs.Simulation.{Lifted, Simulates, Match, weight}
 use Rattle.machine_laws.proofs.LiftLaws.{lifts}
 use Rattle.machine_laws.proofs.GrowthLaws.{step_grows}
@@ -21,7 +23,8 @@ use Rattle.simulation_steps.specs.Steps.{BesideIn}
 use Rattle.simulation_valid.specs.Keeping.{Sound, StaysValid}
 use Rattle.simulation_valid.proofs.StartLaws.{starts_alike, starts_valid}
 use Rattle.valid_calls.proofs.DispatchLaws.{steps_stay}
-use Rattle.step_answers.specs.Runs.{AskedNow, AskedAlong, RunsAnswered}
+use Rattle.step_answers.specs.Runs.{AskedNow, AskedAlong, AnsweredWhole, RunsAnswered}
+use Rattle.step_answers.proofs.EntryLaws.{entries_begin}
 use Rattle.step_answers.proofs.SiteLaws.{runs_here}
 use Rattle.step_answers.proofs.JoinLaws.{steps_answered}
 
@@ -97,8 +100,8 @@ module _ (p : Program) (k : Contracts) (ms : List MethodDesc) (g : AddedNumbers)
       by_next (Running s') e m = lifts (step p k g) (plain_step p') E Going laid (bound_of k p) simulates j s s' t (record { related = m; sound = sound; asked = asked }) e le
       by_next (Ended o w) e m = absurd m
 
-  pub runs_answered : RunsAnswered p k ms g r
-  runs_answered m args rs s old entry starts asked =
+  answers_whole : (m : ℕ) (args : List Value) (rs : List Reply) (s : State) → m < r.methods → IsEntry p m args → start p k m args rs ≡ Running s → AskedAlong p k ms g r s → AnsweredWhole p k ms g r m args rs s
+  answers_whole m args rs s old entry starts asked =
       let a = starts_alike p k ms g r m args rs old in
       by_start (start p' no_contracts m args rs) refl a.steps
       (subst (λ z. a.steps + weight laid z ≤ cost k p + per_frame p k ms g r 2) starts a.most)
@@ -109,3 +112,6 @@ module _ (p : Program) (k : Contracts) (ms : List MethodDesc) (g : AddedNumbers)
           → (t : State) × (start p' no_contracts m args rs ≡ Running t) × Lifted (step p k g) (plain_step p') E (bound_of k p) s t
       by_start (Running t) e j le same sound = (t, e, begun s t j asked sound (omega (arith, le)) (subst (λ y. Match E R (Running s) (and_then y (runs (plain_step p') j))) e same))
       by_start (Ended o w) e j le same sound = absurd (subst (λ y. Match E R (Running s) (and_then y (runs (plain_step p') j))) e same)
+
+  pub runs_answered : RunsAnswered p k ms g r
+  runs_answered m args rs old entry = let b = entries_begin p k m args rs entry in (b.0, b.1, λ asked. answers_whole m args rs b.0 old entry b.1 asked)

@@ -16,6 +16,10 @@ use Rattle.splice_facts.specs.Related.{Rewritten, AlikeWorlds, written}
 use Rattle.valid_calls.specs.Steps.{IsAsked}
 use Rattle.step_answers.specs.Answering.{ObjectsThere}
 
+-- None is over at once: the arguments fit, and no initializer has failed (ECMA-335, II.10.5.3).
+abbrev pub EntriesBegin : Type 0
+EntriesBegin = (p : Program) (k : Contracts) (m : ℕ) (args : List Value) (rs : List Reply) → IsEntry p m args → (s : State) × (start p k m args rs ≡ Running s)
+
 module _ (p : Program) (k : Contracts) (ms : List MethodDesc) (g : AddedNumbers) (r : Rewritten p k ms g) where
   -- what is asked of a state besides that it is sound
   pub record AskedNow (s : State) : Type 0 where
@@ -26,8 +30,11 @@ module _ (p : Program) (k : Contracts) (ms : List MethodDesc) (g : AddedNumbers)
   abbrev pub AskedAlong : State → Type 0
   AskedAlong s = (n : ℕ) (u : State) → runs (step p k g) n s ≡ Running u → AskedNow u
 
-  -- A run that begins is answered whole: both end alike or go on, and what one tells the other tells too, within the bound on steps.
+  -- From its first state on a run is answered whole: both end alike or go on, and what one tells the other tells too, within the bound on steps.
+  abbrev pub AnsweredWhole : ℕ → List Value → List Reply → State → Type 0
+  AnsweredWhole m args rs s = (t : State) × (start (written p k ms g r) no_contracts m args rs ≡ Running t) × Lifted (step p k g) (plain_step (written p k ms g r)) (AlikeWorlds r.types) (bound_of k p) s t
+
+  -- A run of an entry begins, and is answered whole where each of its states has what is asked.
   abbrev pub RunsAnswered : Type 0
   RunsAnswered =
-      (m : ℕ) (args : List Value) (rs : List Reply) (s : State) → m < r.methods → IsEntry p m args → start p k m args rs ≡ Running s → AskedAlong s
-      → (t : State) × (start (written p k ms g r) no_contracts m args rs ≡ Running t) × Lifted (step p k g) (plain_step (written p k ms g r)) (AlikeWorlds r.types) (bound_of k p) s t
+      (m : ℕ) (args : List Value) (rs : List Reply) → m < r.methods → IsEntry p m args → (s : State) × (start p k m args rs ≡ Running s) × (AskedAlong s → AnsweredWhole m args rs s)

@@ -9,7 +9,7 @@ ghost use Rattle.cil_semantics.specs.Checks.{AddedNumbers};
 ghost use Rattle.splice_facts.specs.Related.{Rewritten};
 ghost use Rattle.step_answers.specs.Answering.{StepsAnswered};
 ghost use Rattle.step_answers.specs.Leading.{InstructionsLeadOn};
-ghost use Rattle.step_answers.specs.Runs.{RunsAnswered};
+ghost use Rattle.step_answers.specs.Runs.{EntriesBegin, RunsAnswered};
 
 /// An instruction that calls nothing and doesn't return leads on, or to a target of its operand.
 pub fn instructions_lead_on()
@@ -22,7 +22,12 @@ pub fn each_step_is_answered()
     ensures { (p : Program) (k : Contracts) (ms : List MethodDesc) (g : AddedNumbers) (r : Rewritten p k ms g) → StepsAnswered p k ms g r }
 {}
 
-/// A whole run of an entry is answered, where each of its states has what no law gives yet.
+/// A run of an entry begins: it isn't over at once.
+pub fn entries_begin_to_run()
+    ensures { EntriesBegin }
+{}
+
+/// A whole run of an entry begins, and is answered where each of its states has what no law gives yet.
 pub fn whole_runs_are_answered()
     ensures { (p : Program) (k : Contracts) (ms : List MethodDesc) (g : AddedNumbers) (r : Rewritten p k ms g) → RunsAnswered p k ms g r }
 {}
