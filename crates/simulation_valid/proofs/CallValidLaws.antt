@@ -162,7 +162,7 @@ module _ (p : Program) (k : Contracts) (ms : List MethodDesc) (g : AddedNumbers)
       w2 y z.world (z.depth ∙ c.count ∙ sym (same_count Bs fs gs z.frames)) (subst (λ n. n ≤ suc k.settings.guard) (sym z.depth) c.deep)
   answered_valid m x fs w (Unfit w2) same c z = tt
 
-  caller_waits : (m : ℕ) (fs : List Frame) (w : World) → MayCall p k ms g r m fs w → MayEnter p k ms g r Push m fs w
+  pub caller_waits : (m : ℕ) (fs : List Frame) (w : World) → MayCall p k ms g r m fs w → MayEnter p k ms g r Push m fs w
   caller_waits m [] w c = record { tail = c.tail; begun = refl; waiting = λ f q e. tt; world = c.world; fine_back = tt; count = c.count; deep = c.deep }
   caller_waits m (h ∷ hs) w c =
       record {

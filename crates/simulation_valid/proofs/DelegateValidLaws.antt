@@ -14,7 +14,7 @@ use Rattle.cil_model.specs.declared.program.MethodDesc.{MethodDesc}
 use Rattle.cil_semantics.specs.Words.{maybe, same_bool}
 use Rattle.cil_semantics.specs.Types.{is_empty}
 use Rattle.cil_semantics.specs.Lookups.{type_of, method_of, args_of, in_set}
-use Rattle.cil_semantics.specs.Places.{storage, is_reference}
+use Rattle.cil_semantics.specs.Places.{storage, is_reference, is_void}
 use Rattle.cil_semantics.specs.declared.state.Cell.{Cell}
 use Rattle.cil_semantics.specs.declared.state.Object.{Object}
 use Rattle.cil_semantics.specs.declared.state.World.{World}
@@ -30,7 +30,7 @@ use Rattle.splice_facts.specs.Related.{Rewritten, bounds}
 use Rattle.simulation_steps.proofs.DelegateLaws.{owner_below}
 use Rattle.simulation_objects.proofs.StoredLaws.{object_fine, cell_there}
 use Rattle.simulation_valid.specs.Keeping.{StructThere, NoneVoid, StaysValid}
-use Rattle.simulation_valid.proofs.EnterValidLaws.{enters_valid}
+use Rattle.simulation_valid.proofs.EnterValidLaws.{enters_valid, void_stays}
 use Rattle.simulation_valid.specs.Steps.{MayEnter}
 
 -- the type arguments of a method's owner
@@ -48,6 +48,15 @@ owner_args p m args h = by_test (is_empty args)
     by_test : (b : Bool) → NoneVoid p (args_of (if b then Known (method_of p m).owner else ty.Inst (method_of p m).owner args))
     by_test true = known_args p (method_of p m).owner
     by_test false = subst (λ o. NoneVoid p (maybe [] (λ (d : ℕ × List Ty). d.1) (in_set o))) (sym (inst_args (method_of p m).owner args)) h
+
+-- a function that has a result just where one is wanted
+wanted_void : (a b gives void : Bool) → (a && (b && same_bool gives (not void))) ≡ true → void ≡ not gives
+wanted_void true true true true e = absurd (cc e)
+wanted_void true true true false e = refl
+wanted_void true true false true e = refl
+wanted_void true true false false e = absurd (cc e)
+wanted_void true false gives void e = absurd (cc e)
+wanted_void false b gives void e = absurd (cc e)
 
 parts_fine : (b : Bounds) (cs : List Cell) (d : Value × Value) → WellFormedCells b cs → parts_of cs ≡ Some d → WellFormedValue b d.0 × WellFormedValue b d.1
 parts_fine b [] d h e = absurd (cc e)
@@ -77,23 +86,24 @@ module _ (p : Program) (k : Contracts) (ms : List MethodDesc) (g : AddedNumbers)
       by_test true false = (ft, fv)
       by_test false b = (this_fine owner (out-Value target) target ft, fv)
 
-  -- the caller of a delegate's function, whichever that is
-  abbrev pub MayEnterAny : Continuation → List Frame → World → Type 0
-  MayEnterAny b fs w = (m : ℕ) → MayEnter p k ms g r b m fs w
+  -- the caller of a delegate's function, whichever that is, with a result just where one is wanted
+  abbrev pub MayEnterAny : Bool → Continuation → List Frame → World → Type 0
+  MayEnterAny gives b fs w = (m : ℕ) → is_void (storage p (method_of p m).result) ≡ not gives → MayEnter p k ms g r b m fs w
 
-  function_enters : (gives : Bool) (f target : Value) (values : List Value) (b : Continuation) (fs : List Frame) (w : World) → WellFormedValue Bs f → WellFormedValue Bs target → WellFormedValues Bs values → ((cells : List Cell) → StructThere b cells) → MayEnterAny b fs w
+  function_enters : (gives : Bool) (f target : Value) (values : List Value) (b : Continuation) (fs : List Frame) (w : World) → WellFormedValue Bs f → WellFormedValue Bs target → WellFormedValues Bs values → ((cells : List Cell) → StructThere b cells) → MayEnterAny gives b fs w
       → Stays (enter_function p k gives (out-Value f) target values b fs w)
   unfolding val.out-Value denote.Hole.Carrier.out
   function_enters gives (val.Func m u) target values b fs w fine ft fv there c =
-      by_test (is_some (method_of p m).body && (not (type_of p (method_of p m).owner).reference && same_bool gives (gives_value p (owner_type p m u.type_args) m u.method_args)))
+      by_test (is_some (method_of p m).body && (not (type_of p (method_of p m).owner).reference && same_bool gives (gives_value p (owner_type p m u.type_args) m u.method_args))) refl
     where
-      by_test : (t : Bool) → Stays (if t then enter p k (owner_type p m u.type_args) m u.method_args (delegate_values p (owner_type p m u.type_args) m target values) b fs w else stuck w)
-      by_test true =
-          enters_valid p k ms g r (owner_type p m u.type_args) m u.method_args (delegate_values p (owner_type p m u.type_args) m target values) b fs w fine.0 (owner_below p k ms g r m u.type_args fine.0) (owner_args p m u.type_args fine.1) fine.2 (values_fine (owner_type p m u.type_args) m target values ft fv) there (c m)
-      by_test false = tt
+      by_test : (t : Bool) → (is_some (method_of p m).body && (not (type_of p (method_of p m).owner).reference && same_bool gives (gives_value p (owner_type p m u.type_args) m u.method_args))) ≡ t → Stays (if t then enter p k (owner_type p m u.type_args) m u.method_args (delegate_values p (owner_type p m u.type_args) m target values) b fs w else stuck w)
+      by_test true e =
+          enters_valid p k ms g r (owner_type p m u.type_args) m u.method_args (delegate_values p (owner_type p m u.type_args) m target values) b fs w fine.0 (owner_below p k ms g r m u.type_args fine.0) (owner_args p m u.type_args fine.1) fine.2 (values_fine (owner_type p m u.type_args) m target values ft fv) there
+          (c m (sym (void_stays p (args_of (owner_type p m u.type_args)) u.method_args (owner_args p m u.type_args fine.1) fine.2 (method_of p m).result) ∙ wanted_void (is_some (method_of p m).body) (not (type_of p (method_of p m).owner).reference) gives _ e))
+      by_test false e = tt
   function_enters gives _ target values b fs w fine ft fv there c = tt
 
-  pub delegate_enters : (gives : Bool) (o : Value-F Value) (values : List Value) (b : Continuation) (fs : List Frame) (w : World) → WellFormedWorld Bs w → WellFormedValues Bs values → ((cells : List Cell) → StructThere b cells) → MayEnterAny b fs w → Stays (enter_delegate p k gives o values b fs w)
+  pub delegate_enters : (gives : Bool) (o : Value-F Value) (values : List Value) (b : Continuation) (fs : List Frame) (w : World) → WellFormedWorld Bs w → WellFormedValues Bs values → ((cells : List Cell) → StructThere b cells) → MayEnterAny gives b fs w → Stays (enter_delegate p k gives o values b fs w)
   delegate_enters gives (Value-F.Obj x) values b fs w ok fv there c = by_object (object_at w x) refl
     where
       by_parts : (o : Object) → object_at w x ≡ Some o → (d : Option (Value × Value)) → parts_of o.cells ≡ d → Stays (if_there d w (λ (y : Value × Value). enter_function p k gives (out-Value y.1) y.0 values b fs w))

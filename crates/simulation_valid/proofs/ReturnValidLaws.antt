@@ -164,7 +164,7 @@ module _ (p : Program) (k : Contracts) (ms : List MethodDesc) (g : AddedNumbers)
   -- ForAll and Exists try what is left, or tell their answer
   pub tries_valid : (e : Bool) (t : Value) (o : Option (Value × Remaining)) (l : Remaining) (m : ℕ) (fs : List Frame) (w : World) → ((x : Value × Remaining) → o ≡ Some x → WellFormedValue Bs x.0) → WellFormedValue Bs t → MayReturn p k ms g r m (TryNext e t l) fs w → Stays (try_next p k e t o fs w)
   tries_valid e t None l m fs w fx ft a = pushes_valid p k ms g r (Some (flag (not e))) fs w (given_of m (TryNext e t l) fs w a) (flag_fine (not e)) (next_tried m e t l fs w a)
-  tries_valid e t (Some x) l m fs w fx ft a = delegate_enters p k ms g r true (out-Value t) (x.0 ∷ []) (TryNext e t x.1) fs w a.world (fx x refl, tt) (λ cells. tt) (λ n. waits_on e t l x.1 m n fs w a ft)
+  tries_valid e t (Some x) l m fs w fx ft a = delegate_enters p k ms g r true (out-Value t) (x.0 ∷ []) (TryNext e t x.1) fs w a.world (fx x refl, tt) (λ cells. tt) (λ n q. waits_on e t l x.1 m n fs w a ft)
 
   answers : (e : Bool) (t : Value) (l : Remaining) (o : Option Bool) (m : ℕ) (fs : List Frame) (w : World) → MayReturn p k ms g r m (TryNext e t l) fs w → Stays (tried p k e t l o fs w)
   answers e t l None m fs w a = tt

@@ -72,7 +72,7 @@ module _ (p : Program) (k : Contracts) (ms : List MethodDesc) (g : AddedNumbers)
   FineCall f fs (NewObject c l) = ValidPlaces p k ms g r (record f { local = l }) fs × (l.result ≡ f.local.result) × NamesInput p r.types r.methods (Some (OfMethod c.owner c.method c.method_args)) × WellFormedValues Bs c.values
   FineCall f fs a = ⊥
 
-  abbrev HasHeights : Frame → Act → Type 0
+  abbrev pub HasHeights : Frame → Act → Type 0
   HasHeights f a = (plan : Plan) (old : f.method < r.methods) (e : plan_at k p f.method ≡ Some plan) → is_group f.at ≡ false → LeavesHeight p (r.heights f.method plan old e).height f.at a
 
   performs : (a : Act) (f : Frame) (fs : List Frame) (w : World) → RunsHere p k ms g r f fs w → HasHeights f a → FineCall f fs a → Stays (perform p k g a f fs w)
@@ -121,10 +121,10 @@ module _ (p : Program) (k : Contracts) (ms : List MethodDesc) (g : AddedNumbers)
     makes_fine n (Some _) own = tt
 
   module _ (i : Instr) (f : Frame) (fs : List Frame) (w : World) (a : RunsHere p k ms g r f fs w) (height : HasHeight p k ms g r f f.at 0) (found : fetch p k g (plan_at k p f.method) f.method f.at ≡ Some i) where
-    own : NamesInput p r.types r.methods (meaning_here p (here_of f fs) i)
+    pub own : NamesInput p r.types r.methods (meaning_here p (here_of f fs) i)
     own = r.names f.method f.at i (here_of f fs) a.top.frame.stands.old refl a.top.as_named.2 a.top.as_named.3 a.here found
 
-    heights : HasHeights f (act p (here_of f fs) i w f.local)
+    pub heights : HasHeights f (act p (here_of f fs) i w f.local)
     heights plan old e outer = (r.heights f.method plan old e).keeps f.at i (here_of f fs) w f.local refl (subst (λ o. IsHere o f.at) e a.here) outer (subst (λ o. fetch p k g o f.method f.at ≡ Some i) e found) (but_none (length f.local.stack) _ (height plan old e outer))
 
     pub call_stays : class_of i.op ≡ class.Call → NamesGiving p (meaning_here p (here_of f fs) i) → Stays (run_plain p k g i f fs w)

@@ -52,6 +52,7 @@ use Rattle.simulation_valid.proofs.StepValidLaws.{steps_valid}
 use Rattle.valid_calls.specs.Steps.{IsAsked}
 use Rattle.valid_calls.proofs.CallStepLaws.{call_stays, new_stays}
 use Rattle.valid_calls.proofs.ExceptionValidLaws.{exceptions_valid}
+use Rattle.valid_calls.proofs.VirtualStepLaws.{virtual_step, function_step}
 
 -- ---- a contract call names no local
 
@@ -100,8 +101,8 @@ module _ (p : Program) (k : Contracts) (ms : List MethodDesc) (g : AddedNumbers)
         by_class : (c : Class) → class_of i.op ≡ c → Stays (run_plain p k g i f fs w)
         by_class class.Call e = call_stays p k ms g r i f fs w a height found e (r.gives f.method f.at i (here_of f fs) a.top.frame.stands.old refl a.here found e)
         by_class class.NewObject e = new_stays p k ms g r i f fs w a height found e
-        by_class class.CallVirtual e = asked.virtual i found e
-        by_class class.LoadVirtualFunction e = asked.functions i found e
+        by_class class.CallVirtual e = virtual_step p k ms g r i f fs w a height found e (asked.gives i found e) (asked.virtual i found e)
+        by_class class.LoadVirtualFunction e = function_step p k ms g r i f fs w a height found e (asked.functions i found e)
         by_class c e = steps_valid p k ms g r i f fs w a height found (subst (MayStep p k ms g r i f fs w) (sym e) tt)
 
     checks_here : (c : Plan) (kd : ClauseKind) (home : ℕ) (label : Name) (i : Instr) → plan_at k p f.method ≡ Some c → fetch p k g (Some c) f.method f.at ≡ Some i → contract_call p i ≡ ChecksHere kd → Stays (Rattle.cil_semantics.specs.Checks.check_inline p k g c kd home label i f fs w)

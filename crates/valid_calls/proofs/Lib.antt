@@ -1,5 +1,7 @@
 mod MemberLaws
 mod NewValidLaws
 mod ExceptionValidLaws
+mod VirtualValidLaws
+mod VirtualStepLaws
 pub mod CallStepLaws
 pub mod DispatchLaws

@@ -84,14 +84,14 @@ module _ (p : Program) (k : Contracts) (ms : List MethodDesc) (g : AddedNumbers)
   abbrev Bs : Bounds
   Bs = bounds p k ms g r
 
-  may_push : (m : ℕ) (fs : List Frame) (w : World) → MayCall p k ms g r m fs w → MayPush p k ms g r fs w
+  pub may_push : (m : ℕ) (fs : List Frame) (w : World) → MayCall p k ms g r m fs w → MayPush p k ms g r fs w
   may_push m fs w c = record { others = c.tail.others; returning = c.tail.returning; heights = c.tail.heights; world = c.world; count = c.count; deep = c.deep }
 
   pushes_if : (o : Option Value) (m : ℕ) (fs : List Frame) (w : World) → MayCall p k ms g r m fs w → WellFormedIf Bs o → NextHeight p k ms g r 1 fs → Stays (if_there o w (λ v. push_below p k (Some v) fs w))
   pushes_if None m fs w c fine next = tt
   pushes_if (Some v) m fs w c fine next = pushes_valid p k ms g r (Some v) fs w (may_push m fs w c) fine next
 
-  raises : (name : Name) (m : ℕ) (fs : List Frame) (w : World) → MayCall p k ms g r m fs w → Stays (raise p k name fs w)
+  pub raises : (name : Name) (m : ℕ) (fs : List Frame) (w : World) → MayCall p k ms g r m fs w → Stays (raise p k name fs w)
   raises name m fs w c =
       unwinds p k ms g r Push fs c.tail (with_object p (record { ty = class_named name; cells = [] }) w) (next_object w) (object_added Bs p (record { ty = class_named name; cells = [] }) w tt c.world) c.count c.deep
 
@@ -131,7 +131,7 @@ module _ (p : Program) (k : Contracts) (ms : List MethodDesc) (g : AddedNumbers)
       by_range (Some left) = tries e target left m fs w c next fv.1.1.0
   quantifies e (a ∷ b ∷ d ∷ x ∷ more) m fs w other fv c next o = tt
 
-  by_core : (x : CoreMember) (owner : Ty) (m : ℕ) (args : List Ty) (values : List Value) (fs : List Frame) (w : World) → m < r.methods → IsTrue (is_below r.types owner) → NoneVoid p (args_of owner) → NoneVoid p args → WellFormedValues Bs values → GivesAsDescribed x (result_count p m) → MayCall p k ms g r m fs w
+  pub by_core : (x : CoreMember) (owner : Ty) (m : ℕ) (args : List Ty) (values : List Value) (fs : List Frame) (w : World) → m < r.methods → IsTrue (is_below r.types owner) → NoneVoid p (args_of owner) → NoneVoid p args → WellFormedValues Bs values → GivesAsDescribed x (result_count p m) → MayCall p k ms g r m fs w
       → Stays (call_core p k x owner m args values fs w)
   by_core Constructor owner m args values fs w old own na nb fv gives c = pushes_valid p k ms g r None fs w (may_push m fs w c) tt (subst (λ n. NextHeight p k ms g r n fs) gives c.next)
   by_core (Equality b) owner m args values fs w old own na nb fv gives c = pushes_if (string_answer (Equality b) values) m fs w c (equality_fine Bs b values) (subst (λ n. NextHeight p k ms g r n fs) gives c.next)
