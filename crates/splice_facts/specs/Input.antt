@@ -114,6 +114,12 @@ GivesAsDescribed Constructor n = n ≡ 0
 GivesAsDescribed NotCore n = Unit {0}
 GivesAsDescribed c n = n ≡ 1
 
+-- call and callvirt (ECMA-335, III.3.19 and III.4.2)
+abbrev pub CallsMember : Class → Type 0
+CallsMember class.Call = Unit {0}
+CallsMember class.CallVirtual = Unit {0}
+CallsMember c = ⊥
+
 abbrev pub NamesGiving : Program → Option Meaning → Type 0
 NamesGiving p (Some (OfMethod owner m args)) = GivesAsDescribed (core_of p owner m) (result_count p m)
 NamesGiving p m = Unit {0}

@@ -51,7 +51,7 @@ use Rattle.machine_laws.specs.Answers.{Each, is_below}
 use Rattle.splice_facts.specs.WellFormed.{Bounds, NoneVoid, WellFormedLocal, WellFormedWorld, WellFormedContinuation}
 use Rattle.splice_facts.specs.Comes.{Reaches, Answers}
 use Rattle.splice_facts.specs.Exceptions.{IsObject, ThrowsObject}
-use Rattle.splice_facts.specs.Input.{InputFacts, StackHeights, NamesGiving, result_count, access_count, is_group}
+use Rattle.splice_facts.specs.Input.{InputFacts, StackHeights, CallsMember, NamesGiving, result_count, access_count, is_group}
 use Rattle.splice_facts.specs.Layout.{Depths, Marks, Keeps, IsHere, CanArrive, Onward, fetch}
 use Rattle.splice_facts.specs.Spliced.{Current, Throws_next, Checked, Beside, twin, FitsGroup, Spliced, cost, IsPlainAt}
 
@@ -93,7 +93,7 @@ pub record Rewritten (p : Program) (k : Contracts) (ms : List MethodDesc) (g : A
   -- what a token names for type arguments of which none is void
   pub names : (m : ℕ) (at : ProgramPoint) (i : Instr) (here : Here) → m < methods → here.method ≡ m → NoneVoid p here.type_args → NoneVoid p here.method_args → IsHere (plan_at k p m) at → fetch p k g (plan_at k p m) m at ≡ Some i → NamesInput p types methods (meaning_here p here i)
   -- a call that a token names of a core member describes it with the result that it has (ECMA-335, Partition IV)
-  pub gives : (m : ℕ) (at : ProgramPoint) (i : Instr) (here : Here) → m < methods → here.method ≡ m → IsHere (plan_at k p m) at → fetch p k g (plan_at k p m) m at ≡ Some i → class_of i.op ≡ class.Call → NamesGiving p (meaning_here p here i)
+  pub gives : (m : ℕ) (at : ProgramPoint) (i : Instr) (here : Here) → m < methods → here.method ≡ m → IsHere (plan_at k p m) at → fetch p k g (plan_at k p m) m at ≡ Some i → CallsMember (class_of i.op) → NamesGiving p (meaning_here p here i)
   -- a method of the input belongs to a type of the input
   pub members : (m : ℕ) → m < methods → (method_of p m).owner < types
   -- what was appended overrides and implements nothing: the body that a method of the input has for a type is one of the input

@@ -40,7 +40,7 @@ use Rattle.cil_semantics.specs.declared.state.World.{World}
 use Rattle.splice_facts.specs.Layout.{fetch}
 use Rattle.splice_facts.specs.WellFormed.{WellFormedValue, WellFormedValues, WellFormedPointer}
 use Rattle.splice_facts.specs.Related.{Rewritten, HasHeight, bounds}
-use Rattle.splice_facts.specs.Input.{is_group}
+use Rattle.splice_facts.specs.Input.{is_group, CallsMember}
 use Rattle.simulation_calls.proofs.InlineLaws.{call_checks}
 use Rattle.simulation_checks.proofs.MakeLaws.{made_is}
 use Rattle.simulation_valid.specs.Keeping.{StaysValid}
@@ -99,9 +99,9 @@ module _ (p : Program) (k : Contracts) (ms : List MethodDesc) (g : AddedNumbers)
     runs_valid i found = by_class (class_of i.op) refl
       where
         by_class : (c : Class) → class_of i.op ≡ c → Stays (run_plain p k g i f fs w)
-        by_class class.Call e = call_stays p k ms g r i f fs w a height found e (r.gives f.method f.at i (here_of f fs) a.top.frame.stands.old refl a.here found e)
+        by_class class.Call e = call_stays p k ms g r i f fs w a height found e (r.gives f.method f.at i (here_of f fs) a.top.frame.stands.old refl a.here found (subst CallsMember (sym e) tt))
         by_class class.NewObject e = new_stays p k ms g r i f fs w a height found e
-        by_class class.CallVirtual e = virtual_step p k ms g r i f fs w a height found e (asked.gives i found e) (asked.virtual i found e)
+        by_class class.CallVirtual e = virtual_step p k ms g r i f fs w a height found e (r.gives f.method f.at i (here_of f fs) a.top.frame.stands.old refl a.here found (subst CallsMember (sym e) tt)) (asked.virtual i found e)
         by_class class.LoadVirtualFunction e = function_step p k ms g r i f fs w a height found e (asked.functions i found e)
         by_class c e = steps_valid p k ms g r i f fs w a height found (subst (MayStep p k ms g r i f fs w) (sym e) tt)
 

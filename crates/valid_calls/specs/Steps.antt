@@ -13,7 +13,7 @@ use Rattle.cil_semantics.specs.Calls.{body_seen}
 use Rattle.cil_semantics.specs.Dispatch.{Seen}
 use Rattle.cil_semantics.specs.Lookups.{args_of}
 use Rattle.cil_semantics.specs.Tokens.{meaning_here, constrained_here}
-use Rattle.splice_facts.specs.Input.{NamesGiving, result_count}
+use Rattle.splice_facts.specs.Input.{result_count}
 use Rattle.splice_facts.specs.WellFormed.{NoneVoid}
 use Rattle.il_opcodes.specs.Opcodes.{class_of}
 use Rattle.il_opcodes.specs.declared.class.Class.TheVariants as class
@@ -38,9 +38,8 @@ NamesFinding p w q (Some (OfMethod owner m args)) = ((v : Value) (t : Ty) → dy
 NamesFinding p w q m = Unit {0}
 
 module _ (p : Program) (k : Contracts) (ms : List MethodDesc) (g : AddedNumbers) (r : Rewritten p k ms g) where
-  -- what no law gives yet, of the member that a virtual call or ldvirtftn names: how a core one is described, and what is found for it
+  -- what no law gives yet: what is found for the member that a virtual call or ldvirtftn names
   pub record IsAsked (f : Frame) (fs : List Frame) (w : World) : Type 0 where
-    pub gives : (i : Instr) → fetch p k g (plan_at k p f.method) f.method f.at ≡ Some i → class_of i.op ≡ class.CallVirtual → NamesGiving p (meaning_here p (here_of f fs) i)
     pub virtual : (i : Instr) → fetch p k g (plan_at k p f.method) f.method f.at ≡ Some i → class_of i.op ≡ class.CallVirtual → NamesFinding p w (constrained_here p (here_of f fs) i) (meaning_here p (here_of f fs) i)
     pub functions : (i : Instr) → fetch p k g (plan_at k p f.method) f.method f.at ≡ Some i → class_of i.op ≡ class.LoadVirtualFunction → NamesFinding p w None (meaning_here p (here_of f fs) i)
 
