@@ -1,7 +1,9 @@
--- The text of the command `list` (own): the types of the first assembly and their methods, by their tokens (ECMA-335, II.22).
-use Rattle.std.specs.Prelude.{ℕ, ◌/◌, ◌%◌, ◌==◌, ◌&&◌, Bool, not, if◌then◌else◌, List, [], ◌∷◌, ◌++◌, codes, get_or, slice_get, Option, Some, None}
+-- The text of the command `list` (own): the types of the first assembly, their methods by their tokens (ECMA-335, II.22), and the clauses of these.
+use Rattle.std.specs.Prelude.{ℕ, ◌/◌, ◌%◌, ◌==◌, ◌&&◌, Bool, not, if◌then◌else◌, List, [], ◌∷◌, ◌++◌, codes, slice_get, Option, Some, None}
 use Rattle.std.specs.List.{flat_map}
 use Rattle.cil_base.specs.declared.tables.TheConstants.{TYPE_DEF, METHOD_DEF}
+use Rattle.cil_model.specs.declared.contract.Clause.{Clause}
+use Rattle.cil_model.specs.declared.contract.Contract.{Contract}
 use Rattle.cil_model.specs.declared.program.Program.{Program}
 use Rattle.cil_model.specs.declared.program.TypeDesc.{TypeDesc}
 use Rattle.cil_model.specs.declared.program.MethodDesc.{MethodDesc}
@@ -44,6 +46,18 @@ type_text clauses methods t =
 abbrev pub types_text : (ℕ → List ℕ) → Program → List ℕ
 types_text clauses p = flat_map (type_text clauses p.methods) p.types
 
--- the texts in a list, by their places; empty behind its end
-abbrev pub texts_of : List (List ℕ) → ℕ → List ℕ
-texts_of texts m = get_or texts m []
+-- a clause by its label
+abbrev pub clause_line : Clause → List ℕ
+clause_line c = codes "clause " ++ (name_text c.label ++ codes "\n")
+
+-- the clauses of a contract, and behind them its Assert and Assume calls
+abbrev pub contract_text : Contract → List ℕ
+contract_text c = flat_map clause_line c.clauses ++ flat_map clause_line c.asserts
+
+abbrev pub text_or_none : Option Contract → List ℕ
+text_or_none None = []
+text_or_none (Some c) = contract_text c
+
+-- the text of the contract with a number
+abbrev pub text_at : List Contract → ℕ → List ℕ
+text_at contracts m = text_or_none (slice_get contracts m)

@@ -17,7 +17,7 @@ use Rattle.set_rows.specs.Sets.{Assemblies, assembly_of}
 use Rattle.assembly_rewrite.specs.Rewrite.{IsContract}
 use Rattle.name_rules.specs.NameTests.{BreaksNames}
 use Rattle.body_rules.specs.Sets.{BreaksBodies}
-use Rattle.set_check.specs.Sets.{bytes_at, bytes_of, files_from, reading_layers, all_reading_layers, program_layers, row_layers, later_layers, Layer, Signatures, NameRules, Bodies, Contracts, Breaks, Names, IsContractOf, IsSound, IsUnsound, assemblies_of}
+use Rattle.set_check.specs.Sets.{bytes_at, bytes_of, files_from, reading_layers, all_reading_layers, program_layers, row_layers, later_layers, Layer, Signatures, NameRules, Bodies, Contracts, Breaks, Names, IsContractFrom, IsContractOf, IsSound, IsUnsound, assemblies_of}
 
 -- ---- layers of reading
 
@@ -126,31 +126,39 @@ module _ (set : List (List ℕ)) where
   abbrev pub Has : ℕ → Refusal → Type 0
   Has a = IsContract (metadata_of (bytes_at set a)) a
 
-  abbrev pub NoneUpTo : ℕ → Type 0
-  NoneUpTo n = (j : ℕ) → j < n → NoneBroken (Has j)
+  -- in assemblies from one up to another
+  abbrev pub NoneUpTo : ℕ → ℕ → Type 0
+  NoneUpTo from n = (j : ℕ) → from ≤ j → j < n → NoneBroken (Has j)
 
-  pub first_of_all : (k : ℕ) (r : Refusal) → k < length set → NoneUpTo k → First (Has k) r → First (IsContractOf set) r
-  first_of_all k r l none first =
+  pub first_of_all : (from k : ℕ) (r : Refusal) → from ≤ k → k < length set → NoneUpTo from k → First (Has k) r → First (IsContractFrom from set) r
+  first_of_all from k r above l none first =
       let number : k ≡ r.assembly = sym first.broken.assembly_is in
       record {
-        broken = (omega (arith, l, number), subst (λ (j : ℕ). Has j r) number first.broken);
+        broken = (omega (arith, above, number), (omega (arith, l, number), subst (λ (j : ℕ). Has j r) number first.broken));
         none_before = λ s x. by_assembly s x (cases_lt s.assembly k);
       }
     where
-      behind : (s : Refusal) → IsContractOf set s → k ≤ s.assembly → (k < s.assembly) ⊎ (s.assembly ≤ k) → is_less (key s) (key r) ≡ false
+      behind : (s : Refusal) → IsContractFrom from set s → k ≤ s.assembly → (k < s.assembly) ⊎ (s.assembly ≤ k) → is_less (key s) (key r) ≡ false
       behind s x le (inl less) =
           not_less s.assembly r.assembly (s.table ∷ s.row ∷ s.at ∷ rule_number s.rule ∷ []) (r.table ∷ r.row ∷ r.at ∷ rule_number r.rule ∷ [])
           (omega (arith, le, sym first.broken.assembly_is)) (λ same. absurd (omega (arith, less, same, sym first.broken.assembly_is)))
       behind s x le (inr more) =
           let same : s.assembly ≡ k = omega (arith, le, more) in
-          first.none_before s (subst (λ (j : ℕ). Has j s) same x.1)
+          first.none_before s (subst (λ (j : ℕ). Has j s) same x.1.1)
 
-      by_assembly : (s : Refusal) → IsContractOf set s → (s.assembly < k) ⊎ (k ≤ s.assembly) → is_less (key s) (key r) ≡ false
-      by_assembly s x (inl less) = absurd (none s.assembly less s x.1)
+      by_assembly : (s : Refusal) → IsContractFrom from set s → (s.assembly < k) ⊎ (k ≤ s.assembly) → is_less (key s) (key r) ≡ false
+      by_assembly s x (inl less) = absurd (none s.assembly x.0 less s x.1.1)
       by_assembly s x (inr le) = behind s x le (cases_lt k s.assembly)
 
-  pub none_of_all : NoneUpTo (length set) → NoneBroken (IsContractOf set)
-  none_of_all none r x = none r.assembly x.0 r x.1
+  pub none_of_all : (from : ℕ) → NoneUpTo from (length set) → NoneBroken (IsContractFrom from set)
+  none_of_all from none r x = none r.assembly x.0 x.1.0 r x.1.1
+
+  -- from the first on
+  pub first_of_set : (r : Refusal) → First (IsContractFrom 0 set) r → First (IsContractOf set) r
+  first_of_set r first = record { broken = first.broken.1; none_before = λ s x. first.none_before s (omega arith, x) }
+
+  pub none_of_set : NoneBroken (IsContractFrom 0 set) → NoneBroken (IsContractOf set)
+  none_of_set none r x = none r (omega arith, x)
 
 -- ---- which refusals are named
 
@@ -197,11 +205,11 @@ module _ (set : List (List ℕ)) (writes : Bool) where
   pub rows_refused : (r : Refusal) → InLayers (Breaks set) (Names set) (row_layers writes) r → InLayers (Breaks set) (Names set) (later_layers writes) r
   rows_refused r h = named_before (Breaks set) (Names set) (row_layers writes) (Contracts ∷ []) r h
 
-  pub contract_refused : (r : Refusal) → NoneOf (Breaks set) (row_layers writes) → First (IsContractOf set) r → InLayers (Breaks set) (Names set) (later_layers writes) r
-  contract_refused r sound h = named_behind (Breaks set) (Names set) (row_layers writes) (Contracts ∷ []) r sound (inl h)
+  pub contract_refused : (r : Refusal) → NoneOf (Breaks set) (row_layers writes) → First (IsContractFrom 0 set) r → InLayers (Breaks set) (Names set) (later_layers writes) r
+  contract_refused r sound h = named_behind (Breaks set) (Names set) (row_layers writes) (Contracts ∷ []) r sound (inl (first_of_set set r h))
 
-  pub later_kept : NoneOf (Breaks set) (row_layers writes) → NoneBroken (IsContractOf set) → NoneOf (Breaks set) (later_layers writes)
-  later_kept sound none = none_joined (Breaks set) (Names set) (row_layers writes) (Contracts ∷ []) sound (none, tt)
+  pub later_kept : NoneOf (Breaks set) (row_layers writes) → NoneBroken (IsContractFrom 0 set) → NoneOf (Breaks set) (later_layers writes)
+  later_kept sound none = none_joined (Breaks set) (Names set) (row_layers writes) (Contracts ∷ []) sound (none_of_set set none, tt)
 
 -- the bytes of what was read are those of the files
 pub same_bytes : (all : List (List ℕ)) (set slice : List File) → set ≡ files_from 0 all → slice ≡ set → bytes_of slice ≡ all

@@ -1,5 +1,5 @@
 -- The rules that each command on a set of assemblies (ECMA-335, II.6.1) tries, TARGET first.
-use Rattle.std.specs.Prelude.{ℕ, ◌+◌, ◌<◌, Bool, List, [], ◌∷◌, ◌++◌, map, flat_map, length, get_or}
+use Rattle.std.specs.Prelude.{◌≡◌, ℕ, ◌+◌, ◌<◌, ◌≤◌, Bool, false, List, [], ◌∷◌, ◌++◌, map, flat_map, length, get_or, slice_get, Option, Some, IfSome}
 use Rattle.std.specs.List.{range_with_len}
 use Rattle.cil_base.specs.declared.refusal.Refusal.{Refusal}
 use Rattle.cil_base.specs.Refusals.{First, InLayers, NoneOf}
@@ -8,8 +8,17 @@ use Rattle.pe_image.specs.Cli.{metadata_of}
 use Rattle.assembly.specs.Assemblies as reading
 use Rattle.set_rows.specs.Sets.{Assemblies, assembly_of}
 use Rattle.set_blobs.specs.BadBlobs.{BreaksBlobs}
+use Rattle.cil_model.specs.declared.body.Body.{Body}
+use Rattle.cil_model.specs.declared.program.MethodDesc.{MethodDesc}
+use Rattle.cil_model.specs.declared.program.Program.{Program}
+use Rattle.member_table.specs.declared.named.MemberId.{MemberId}
+use Rattle.member_table.specs.declared.named.MemberId.TheVariants as id
+use Rattle.member_table.specs.Numbers.{member_ids}
+use Rattle.descriptions.specs.WholePrograms.{IsProgramOf}
+use Rattle.method_bodies.specs.Plain.{IsPlain}
+use Rattle.method_bodies.specs.Rows.{code_in}
 use Rattle.name_rules.specs.NameTests.{BreaksNames}
-use Rattle.body_rules.specs.Sets.{BreaksBodies}
+use Rattle.body_rules.specs.Sets.{BreaksBodies, IsSoundAt}
 use Rattle.assembly_rewrite.specs.Rewrite.{IsContract}
 
 -- the bytes of an assembly, by its number
@@ -27,6 +36,18 @@ bytes_of files = map (λ file. file.bytes) files
 -- the assemblies as their tables and heaps
 abbrev pub assemblies_of : List (List ℕ) → Assemblies
 assemblies_of set = map assembly_of set
+
+-- ---- the program
+
+-- The body of a member as it is read; it breaks no rule.
+abbrev pub IsReadBody : Assemblies → MemberId → Option Body → Type 0
+IsReadBody s (id.Row a row) body = IfSome body IsPlain × IsSoundAt s a row body
+IsReadBody s (id.Outside m) body = Unit {0}
+
+-- The program of a set with the bodies of its rows as they are read, none of which breaks a rule.
+pub record IsReadProgram (s : Assemblies) (p : Program) : Type 0 where
+  pub whole : IsProgramOf (code_in s) s p
+  pub bodies : (k : ℕ) (m : MemberId) (d : MethodDesc) → slice_get (member_ids s false) k ≡ Some m → slice_get p.methods k ≡ Some d → IsReadBody s m d.body
 
 -- ---- the layers of rules
 
@@ -63,6 +84,10 @@ layers writes n = all_reading_layers 0 n ++ later_layers writes
 -- some assembly of the set has contracts, which no command reads yet
 abbrev pub IsContractOf : List (List ℕ) → Refusal → Type 0
 IsContractOf set r = (r.assembly < length set) × IsContract (metadata_of (bytes_at set r.assembly)) r.assembly r
+
+-- the same of an assembly from one on
+abbrev pub IsContractFrom : ℕ → List (List ℕ) → Refusal → Type 0
+IsContractFrom from set r = (from ≤ r.assembly) × IsContractOf set r
 
 -- a rule that the set breaks, and where
 abbrev pub Breaks : List (List ℕ) → Layer → Refusal → Type 0

@@ -1,11 +1,11 @@
 // The rules on a set of assemblies.
 ghost use Rattle.std.specs.Prelude.{◌≡◌, ◌<◌, ◌^◌, ℕ, length, IfOk, OnOk, MatchOption};
 ghost use Rattle.cil_base.specs.Refusals.{First, InLayers, NoneBroken, NoneOf, OnRefused};
-ghost use Rattle.descriptions.specs.Programs.{program_of};
 ghost use Rattle.body_rules.specs.Sets.{BreaksBodies};
+ghost use Rattle.descriptions.specs.Programs.{program_of};
 ghost use Rattle.name_rules.specs.NameTests.{BreaksNames};
 ghost use Rattle.set_blobs.specs.BadBlobs.{BreaksBlobs};
-ghost use Rattle.set_check.specs.Sets.{assemblies_of, bytes_at, bytes_of, files_from, later_layers, program_layers, row_layers, Breaks, IsContractOf, IsSound, IsUnsound, Names};
+ghost use Rattle.set_check.specs.Sets.{assemblies_of, bytes_at, bytes_of, files_from, later_layers, program_layers, row_layers, Breaks, IsContractFrom, IsReadProgram, IsSound, IsUnsound, Names};
 
 use crate::read::read_set;
 use assembly::Assembly;
@@ -21,12 +21,12 @@ use set_rows::Rows;
 use set_tables::SetTables;
 use std::alloc::{AllocError, Global};
 
-/// Z1 at the first row of a set that tells of Code Contracts.
-fn first_in_set(set: &[Assembly<'_>]) -> Option<Refusal>
+/// Z1 at the first row that tells of Code Contracts in an assembly of a set from one on.
+pub fn first_contract_row_from(set: &[Assembly<'_>], from: usize) -> Option<Refusal>
     requires { set.now ≡ files_from 0 (bytes_of set.now) }
-    ensures { MatchOption result (NoneBroken (IsContractOf (bytes_of set.now))) (First (IsContractOf (bytes_of set.now))) }
+    ensures { MatchOption result (NoneBroken (IsContractFrom from (bytes_of set.now))) (First (IsContractFrom from (bytes_of set.now))) }
 {
-    for k in 0..set.len() {
+    for k in from..set.len() {
         if let Some(refusal) = first_contract_row(&set[k]) {
             return Some(refusal);
         }
@@ -58,6 +58,32 @@ fn first_bad_blob(alloc: Global, parts: &[Part<'_>]) -> Result<(), Fault>
     }
 }
 
+/// Puts the bodies of a set into its program, where none breaks a rule.
+fn fill<'a>(
+    alloc: Global,
+    set: &'a [Assembly<'a>],
+    tables: &SetTables<'a>,
+    program: &mut Program,
+) -> Result<(), Fault>
+    requires numbered { set.now ≡ files_from 0 (bytes_of set.now) }
+    requires same { tables.now ≡ assemblies_of (bytes_of set.now) }
+    requires short { (a : ℕ) → length (bytes_at (bytes_of set.now) a) < 2 ^ 32 }
+    requires some { 0 < length set.now }
+    requires few { length set.now < 2 ^ 32 }
+    requires program { program.old ≡ program_of tables.now }
+    ensures done { OnOk result (IsReadProgram tables.now program.new) }
+    ensures accepted { OnOk result (NoneBroken (BreaksBodies tables.now)) }
+    ensures refused { OnRefused result (First (BreaksBodies tables.now)) }
+{
+    match set_bodies(alloc, set, tables, &*program) {
+        Ok(bodies) => {
+            program_bodies::set_bodies(program, bodies);
+            Ok(())
+        }
+        Err(fault) => Err(fault),
+    }
+}
+
 /// The program of a set, where no body breaks a rule.
 fn check_bodies<'a>(
     alloc: Global,
@@ -69,17 +95,16 @@ fn check_bodies<'a>(
     requires short { (a : ℕ) → length (bytes_at (bytes_of set.now) a) < 2 ^ 32 }
     requires some { 0 < length set.now }
     requires few { length set.now < 2 ^ 32 }
-    ensures done { IfOk result (λ p. p ≡ program_of tables.now) }
+    ensures done { IfOk result (IsReadProgram tables.now) }
     ensures accepted { OnOk result (NoneBroken (BreaksBodies tables.now)) }
     ensures refused { OnRefused result (First (BreaksBodies tables.now)) }
 {
-    let program = match program_of(alloc, set, tables) {
-        Ok(program) => program,
-        Err(e) => return Err(e.into()),
-    };
-    match set_bodies(alloc, set, tables, &program) {
-        Ok(_) => Ok(program),
-        Err(fault) => Err(fault),
+    match program_of(alloc, set, tables) {
+        Ok(mut program) => match fill(alloc, set, tables, &mut program) {
+            Ok(()) => Ok(program),
+            Err(fault) => Err(fault),
+        },
+        Err(e) => Err(e.into()),
     }
 }
 
@@ -107,7 +132,7 @@ fn check_tables<'a>(
     requires short { (a : ℕ) → length (bytes_at (bytes_of set.now) a) < 2 ^ 32 }
     requires some { 0 < length set.now }
     requires few { length set.now < 2 ^ 32 }
-    ensures done { IfOk result (λ p. p ≡ program_of tables.now) }
+    ensures done { IfOk result (IsReadProgram tables.now) }
     ensures accepted { OnOk result (NoneOf (Breaks (bytes_of set.now)) (program_layers writes)) }
     ensures refused { OnRefused result (InLayers (Breaks (bytes_of set.now)) (Names (bytes_of set.now)) (program_layers writes)) }
 {
@@ -129,7 +154,7 @@ fn check_names<'a>(
     requires short { (a : ℕ) → length (bytes_at (bytes_of set.now) a) < 2 ^ 32 }
     requires some { 0 < length set.now }
     requires few { length set.now < 2 ^ 32 }
-    ensures done { IfOk result (λ p. p ≡ program_of parts.now) }
+    ensures done { IfOk result (IsReadProgram parts.now) }
     ensures accepted { OnOk result (NoneOf (Breaks (bytes_of set.now)) (program_layers writes)) }
     ensures refused { OnRefused result (InLayers (Breaks (bytes_of set.now)) (Names (bytes_of set.now)) (program_layers writes)) }
 {
@@ -152,7 +177,7 @@ fn check_parts<'a>(
     requires short { (a : ℕ) → length (bytes_at (bytes_of set.now) a) < 2 ^ 32 }
     requires some { 0 < length set.now }
     requires few { length set.now < 2 ^ 32 }
-    ensures done { IfOk result (λ p. p ≡ program_of parts.now) }
+    ensures done { IfOk result (IsReadProgram parts.now) }
     ensures accepted { OnOk result (NoneOf (Breaks (bytes_of set.now)) (row_layers writes)) }
     ensures refused { OnRefused result (InLayers (Breaks (bytes_of set.now)) (Names (bytes_of set.now)) (row_layers writes)) }
 {
@@ -162,27 +187,44 @@ fn check_parts<'a>(
     }
 }
 
-/// Tries the rules on assemblies that are read: S1 and S2, N, I and X, then Z1.
-fn check_read<'a>(alloc: Global, set: &'a [Assembly<'a>], writes: bool) -> Result<Program, Fault>
+/// The program of assemblies that are read, its methods with their bodies. The refusal is the first
+/// of S1 and S2, then of N (of N5 where the first is to be rewritten), then of I and X method by
+/// method.
+pub fn checked_program<'a>(
+    alloc: Global,
+    set: &'a [Assembly<'a>],
+    writes: bool,
+) -> Result<Program, Fault>
     requires numbered { set.now ≡ files_from 0 (bytes_of set.now) }
     requires short { (a : ℕ) → length (bytes_at (bytes_of set.now) a) < 2 ^ 32 }
     requires some { 0 < length set.now }
     requires few { length set.now < 2 ^ 32 }
-    ensures done { IfOk result (λ p. p ≡ program_of (assemblies_of (bytes_of set.now))) }
+    ensures done { IfOk result (IsReadProgram (assemblies_of (bytes_of set.now))) }
+    ensures accepted { OnOk result (NoneOf (Breaks (bytes_of set.now)) (row_layers writes)) }
+    ensures refused { OnRefused result (InLayers (Breaks (bytes_of set.now)) (Names (bytes_of set.now)) (row_layers writes)) }
+{
+    match parts(alloc, set) {
+        Ok(parts) => check_parts(alloc, &*set, parts.as_slice(), writes),
+        Err(e) => Err(e.into()),
+    }
+}
+
+/// Tries the rules on assemblies that are read: S1 and S2, N, I and X, then Z1.
+fn check_read<'a>(alloc: Global, set: &'a [Assembly<'a>], writes: bool) -> Result<(), Fault>
+    requires numbered { set.now ≡ files_from 0 (bytes_of set.now) }
+    requires short { (a : ℕ) → length (bytes_at (bytes_of set.now) a) < 2 ^ 32 }
+    requires some { 0 < length set.now }
+    requires few { length set.now < 2 ^ 32 }
     ensures accepted { OnOk result (NoneOf (Breaks (bytes_of set.now)) (later_layers writes)) }
     ensures refused { OnRefused result (InLayers (Breaks (bytes_of set.now)) (Names (bytes_of set.now)) (later_layers writes)) }
 {
-    let parts = match parts(alloc, set) {
-        Ok(parts) => parts,
-        Err(e) => return Err(e.into()),
-    };
-    let program = match check_parts(alloc, &*set, parts.as_slice(), writes) {
-        Ok(program) => program,
+    match checked_program(alloc, &*set, writes) {
+        Ok(_) => {}
         Err(fault) => return Err(fault),
-    };
-    match first_in_set(set) {
+    }
+    match first_contract_row_from(set, 0) {
         Some(refusal) => Err(Fault::Refused(refusal)),
-        None => Ok(program),
+        None => Ok(()),
     }
 }
 
@@ -210,21 +252,4 @@ pub fn checked_set<'a>(
         Ok(_) => Ok(set),
         Err(fault) => Err(fault),
     }
-}
-
-/// The program of the assemblies of these files, its methods without their bodies. The refusal is as
-/// that of `checked_set`.
-pub fn checked_program(alloc: Global, files: &[Bytes], writes: bool) -> Result<Program, Fault>
-    requires short { (a : ℕ) → length (bytes_at files.now a) < 2 ^ 32 }
-    requires some { 0 < length files.now }
-    requires few { length files.now < 2 ^ 32 }
-    ensures done { IfOk result (λ p. p ≡ program_of (assemblies_of files.now)) }
-    ensures accepted { OnOk result (IsSound writes files.now) }
-    ensures refused { OnRefused result (IsUnsound writes files.now) }
-{
-    let set = match read_set(alloc, files) {
-        Ok(set) => set,
-        Err(fault) => return Err(fault),
-    };
-    check_read(alloc, set.as_slice(), writes)
 }

@@ -4,4 +4,5 @@
 mod check;
 mod read;
 
-pub use check::{checked_program, checked_set};
+pub use check::{checked_program, checked_set, first_contract_row_from};
+pub use read::read_set;

@@ -32,7 +32,7 @@ fn read_more<'a>(alloc: Global, set: &mut Vec<Assembly<'a>>, bytes: &'a [u8]) ->
 
 /// The assemblies of these files; the number of each is its place. The refusal is the first of P
 /// and M of the first that breaks one.
-pub(crate) fn read_set<'a>(alloc: Global, files: &'a [Bytes]) -> Result<Vec<Assembly<'a>>, Fault>
+pub fn read_set<'a>(alloc: Global, files: &'a [Bytes]) -> Result<Vec<Assembly<'a>>, Fault>
     requires short { (a : ℕ) → length (bytes_at files.now a) < 2 ^ 32 }
     requires few { length files.now < 2 ^ 32 }
     ensures ok { IfOk result (λ set. set.items ≡ files_from 0 files.entry.now) }

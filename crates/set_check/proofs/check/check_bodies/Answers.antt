@@ -8,10 +8,3 @@ program_of-requires-clause-same c = same_assemblies c.args.set.now ∙ sym c.req
 
 pub program_of-requires-clause-numbered : goal.program_of-requires-clause-numbered
 program_of-requires-clause-numbered c = are_numbered c.args.set.now c.requires.numbered
-
-pub set_bodies-requires-clause-short : goal.set_bodies-requires-clause-short
-set_bodies-requires-clause-short c k file there =
-    subst (λ (bytes : List ℕ). length bytes < 2 ^ 32) (sym (bytes_of_there c.args.set.now k file there)) (c.requires.short k)
-
-pub set_bodies-requires-clause-tables : goal.set_bodies-requires-clause-tables
-set_bodies-requires-clause-tables c = c.requires.same ∙ sym (same_assemblies c.args.set.now)

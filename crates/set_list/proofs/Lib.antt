@@ -1,0 +1,4 @@
+pub mod HeightLaws
+pub mod UniqueLaws
+pub mod ListLaws
+pub mod UnreadLaws
