@@ -1,5 +1,5 @@
 // The rules on a set of assemblies.
-ghost use Rattle.std.specs.Prelude.{◌≡◌, ◌<◌, ◌^◌, ℕ, length, IfOk, OnOk, MatchOption};
+ghost use Rattle.std.specs.Prelude.{◌≡◌, ◌<◌, ◌^◌, ℕ, length, IfOk, IsTrue, OnOk, MatchOption};
 ghost use Rattle.cil_base.specs.Refusals.{First, InLayers, NoneBroken, NoneOf, OnRefused};
 ghost use Rattle.body_rules.specs.Sets.{BreaksBodies};
 ghost use Rattle.descriptions.specs.Programs.{program_of};
@@ -10,7 +10,7 @@ ghost use Rattle.set_check.specs.Sets.{assemblies_of, bytes_at, bytes_of, files_
 use crate::read::read_set;
 use assembly::Assembly;
 use assembly_rewrite::first_contract_row;
-use body_rules::set_bodies;
+use body_rules::{check_set_bodies, set_bodies};
 use cil_base::{Bytes, Fault, Refusal};
 use cil_model::Program;
 use name_rules::name_fault;
@@ -84,23 +84,48 @@ fn fill<'a>(
     }
 }
 
-/// The program of a set, where no body breaks a rule.
+/// Tries the rules on the bodies of a set; where they are kept, they are put into its program.
+fn try_bodies<'a>(
+    alloc: Global,
+    set: &'a [Assembly<'a>],
+    tables: &SetTables<'a>,
+    keeps: bool,
+    program: &mut Program,
+) -> Result<(), Fault>
+    requires numbered { set.now ≡ files_from 0 (bytes_of set.now) }
+    requires same { tables.now ≡ assemblies_of (bytes_of set.now) }
+    requires short { (a : ℕ) → length (bytes_at (bytes_of set.now) a) < 2 ^ 32 }
+    requires some { 0 < length set.now }
+    requires few { length set.now < 2 ^ 32 }
+    requires program { program.old ≡ program_of tables.now }
+    ensures done { OnOk result (IsTrue keeps → IsReadProgram tables.now program.new) }
+    ensures accepted { OnOk result (NoneBroken (BreaksBodies tables.now)) }
+    ensures refused { OnRefused result (First (BreaksBodies tables.now)) }
+{
+    if keeps {
+        return fill(alloc, set, tables, program);
+    }
+    check_set_bodies(alloc, set, tables, &*program)
+}
+
+/// The program of a set, where no body breaks a rule; with its bodies, where they are kept.
 fn check_bodies<'a>(
     alloc: Global,
     set: &'a [Assembly<'a>],
     tables: &SetTables<'a>,
+    keeps: bool,
 ) -> Result<Program, Fault>
     requires numbered { set.now ≡ files_from 0 (bytes_of set.now) }
     requires same { tables.now ≡ assemblies_of (bytes_of set.now) }
     requires short { (a : ℕ) → length (bytes_at (bytes_of set.now) a) < 2 ^ 32 }
     requires some { 0 < length set.now }
     requires few { length set.now < 2 ^ 32 }
-    ensures done { IfOk result (IsReadProgram tables.now) }
+    ensures done { IfOk result (λ p. IsTrue keeps → IsReadProgram tables.now p) }
     ensures accepted { OnOk result (NoneBroken (BreaksBodies tables.now)) }
     ensures refused { OnRefused result (First (BreaksBodies tables.now)) }
 {
     match program_of(alloc, set, tables) {
-        Ok(mut program) => match fill(alloc, set, tables, &mut program) {
+        Ok(mut program) => match try_bodies(alloc, set, tables, keeps, &mut program) {
             Ok(()) => Ok(program),
             Err(fault) => Err(fault),
         },
@@ -126,18 +151,19 @@ fn check_tables<'a>(
     set: &'a [Assembly<'a>],
     tables: &SetTables<'a>,
     writes: bool,
+    keeps: bool,
 ) -> Result<Program, Fault>
     requires numbered { set.now ≡ files_from 0 (bytes_of set.now) }
     requires same { tables.now ≡ assemblies_of (bytes_of set.now) }
     requires short { (a : ℕ) → length (bytes_at (bytes_of set.now) a) < 2 ^ 32 }
     requires some { 0 < length set.now }
     requires few { length set.now < 2 ^ 32 }
-    ensures done { IfOk result (IsReadProgram tables.now) }
+    ensures done { IfOk result (λ p. IsTrue keeps → IsReadProgram tables.now p) }
     ensures accepted { OnOk result (NoneOf (Breaks (bytes_of set.now)) (program_layers writes)) }
     ensures refused { OnRefused result (InLayers (Breaks (bytes_of set.now)) (Names (bytes_of set.now)) (program_layers writes)) }
 {
     match first_bad_name(alloc, tables, writes) {
-        Ok(()) => check_bodies(alloc, set, tables),
+        Ok(()) => check_bodies(alloc, set, tables, keeps),
         Err(fault) => Err(fault),
     }
 }
@@ -148,13 +174,14 @@ fn check_names<'a>(
     set: &'a [Assembly<'a>],
     parts: &'a [Part<'a>],
     writes: bool,
+    keeps: bool,
 ) -> Result<Program, Fault>
     requires numbered { set.now ≡ files_from 0 (bytes_of set.now) }
     requires same { parts.now ≡ assemblies_of (bytes_of set.now) }
     requires short { (a : ℕ) → length (bytes_at (bytes_of set.now) a) < 2 ^ 32 }
     requires some { 0 < length set.now }
     requires few { length set.now < 2 ^ 32 }
-    ensures done { IfOk result (IsReadProgram parts.now) }
+    ensures done { IfOk result (λ p. IsTrue keeps → IsReadProgram parts.now p) }
     ensures accepted { OnOk result (NoneOf (Breaks (bytes_of set.now)) (program_layers writes)) }
     ensures refused { OnRefused result (InLayers (Breaks (bytes_of set.now)) (Names (bytes_of set.now)) (program_layers writes)) }
 {
@@ -162,7 +189,7 @@ fn check_names<'a>(
         Ok(tables) => tables,
         Err(e) => return Err(e.into()),
     };
-    check_tables(alloc, set, &tables, writes)
+    check_tables(alloc, set, &tables, writes, keeps)
 }
 
 /// The program of assemblies that are read: S1 and S2, then N, then I and X.
@@ -171,18 +198,19 @@ fn check_parts<'a>(
     set: &'a [Assembly<'a>],
     parts: &'a [Part<'a>],
     writes: bool,
+    keeps: bool,
 ) -> Result<Program, Fault>
     requires numbered { set.now ≡ files_from 0 (bytes_of set.now) }
     requires same { parts.now ≡ assemblies_of (bytes_of set.now) }
     requires short { (a : ℕ) → length (bytes_at (bytes_of set.now) a) < 2 ^ 32 }
     requires some { 0 < length set.now }
     requires few { length set.now < 2 ^ 32 }
-    ensures done { IfOk result (IsReadProgram parts.now) }
+    ensures done { IfOk result (λ p. IsTrue keeps → IsReadProgram parts.now p) }
     ensures accepted { OnOk result (NoneOf (Breaks (bytes_of set.now)) (row_layers writes)) }
     ensures refused { OnRefused result (InLayers (Breaks (bytes_of set.now)) (Names (bytes_of set.now)) (row_layers writes)) }
 {
     match first_bad_blob(alloc, parts) {
-        Ok(()) => check_names(alloc, set, parts, writes),
+        Ok(()) => check_names(alloc, set, parts, writes, keeps),
         Err(fault) => Err(fault),
     }
 }
@@ -204,8 +232,27 @@ pub fn checked_program<'a>(
     ensures refused { OnRefused result (InLayers (Breaks (bytes_of set.now)) (Names (bytes_of set.now)) (row_layers writes)) }
 {
     match parts(alloc, set) {
-        Ok(parts) => check_parts(alloc, &*set, parts.as_slice(), writes),
+        Ok(parts) => check_parts(alloc, &*set, parts.as_slice(), writes, true),
         Err(e) => Err(e.into()),
+    }
+}
+
+/// Tries the rules of a program on assemblies that are read. No body is kept.
+fn check_program<'a>(alloc: Global, set: &'a [Assembly<'a>], writes: bool) -> Result<(), Fault>
+    requires numbered { set.now ≡ files_from 0 (bytes_of set.now) }
+    requires short { (a : ℕ) → length (bytes_at (bytes_of set.now) a) < 2 ^ 32 }
+    requires some { 0 < length set.now }
+    requires few { length set.now < 2 ^ 32 }
+    ensures accepted { OnOk result (NoneOf (Breaks (bytes_of set.now)) (row_layers writes)) }
+    ensures refused { OnRefused result (InLayers (Breaks (bytes_of set.now)) (Names (bytes_of set.now)) (row_layers writes)) }
+{
+    let parts = match parts(alloc, set) {
+        Ok(parts) => parts,
+        Err(e) => return Err(e.into()),
+    };
+    match check_parts(alloc, &*set, parts.as_slice(), writes, false) {
+        Ok(_) => Ok(()),
+        Err(fault) => Err(fault),
     }
 }
 
@@ -218,8 +265,8 @@ fn check_read<'a>(alloc: Global, set: &'a [Assembly<'a>], writes: bool) -> Resul
     ensures accepted { OnOk result (NoneOf (Breaks (bytes_of set.now)) (later_layers writes)) }
     ensures refused { OnRefused result (InLayers (Breaks (bytes_of set.now)) (Names (bytes_of set.now)) (later_layers writes)) }
 {
-    match checked_program(alloc, &*set, writes) {
-        Ok(_) => {}
+    match check_program(alloc, &*set, writes) {
+        Ok(()) => {}
         Err(fault) => return Err(fault),
     }
     match first_contract_row_from(set, 0) {
