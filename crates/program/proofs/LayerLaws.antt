@@ -1,5 +1,5 @@
 -- Which refusals of the files of a command are named.
-use Rattle.std.proofs.Common.{◌≡◌, ◌⊎◌, ℕ, false, List, [], ◌∷◌, length, sym, ◌∙◌, inl, inr}
+use Rattle.std.proofs.Common.{◌≡◌, ◌⊎◌, ℕ, List, [], ◌∷◌, length, sym, ◌∙◌, inl, inr}
 use Rattle.cil_base.specs.declared.refusal.Refusal.{Refusal}
 use Rattle.cil_base.specs.Refusals.{InLayers}
 use Rattle.cil_base.proofs.OrderLaws.{first_is_one}
@@ -7,9 +7,9 @@ use Rattle.cil_base.proofs.LayerLaws.{layers_are_one}
 use Rattle.command_line.specs.declared.words.Command.{Command}
 use Rattle.command_line.specs.declared.words.Command.TheVariants as commands
 use Rattle.body_splice.specs.Rewrite as body
-use Rattle.set_check.specs.Sets as checked
+use Rattle.set_list.specs.Lists as listing
 use Rattle.set_check.specs.Sets.{bytes_at}
-use Rattle.set_check.proofs.SetLaws as checks
+use Rattle.set_list.proofs.ListLaws as lists
 use Rattle.set_rewrite.specs.Sets as rewriting
 use Rattle.set_rewrite.proofs.RewriteLaws.{names_broken, names_one}
 use Rattle.program.specs.Layers.{InSome, IsInnerRefusal, IsInnerEither}
@@ -40,7 +40,7 @@ one_inner commands.Body set r s h k =
 one_inner (commands.Rewrite settings) set r s h k =
     one_of (rewriting.Breaks set) (rewriting.Names set) (rewriting.MayBoth set) (names_broken set) (names_one set) (rewriting.layers (length set)) r s h k
 one_inner commands.List set r s h k =
-    layers_are_one (checked.Breaks set) (checked.Names set) (λ x y. ⊥) (checked.layers false (length set)) (checks.names_broken set) (λ l x y p q. inl (checks.names_one set l x y p q)) r s h k
+    layers_are_one (listing.Breaks set) (listing.Names set) (λ x y. ⊥) (listing.layers (length set)) (lists.names_broken set) (λ l x y p q. inl (lists.names_one set l x y p q)) r s h k
 
 -- The files are refused by one refusal, but for a second limit.
 pub one_refusal : (command : Command) (files : Reading) (r s : Refusal) → IsRefusal command files r → IsRefusal command files s → (s ≡ r) ⊎ IsEither command files s r

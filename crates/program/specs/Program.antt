@@ -10,7 +10,7 @@ use Rattle.command_line.specs.Words.{wrong_word, IsCommand}
 use Rattle.body_splice.specs.Rewrite.{IsRewriting}
 use Rattle.assembly_rewrite.specs.Rewrite.{KeepsRows}
 use Rattle.set_check.specs.Sets.{bytes_at}
-use Rattle.set_list.specs.Lists.{listed}
+use Rattle.set_list.specs.Lists.{IsListed}
 use Rattle.program.specs.Layers.{IsInnerRefusal, KeepsInnerRules, IsInnerEither}
 use Rattle.program.specs.Reading.{Reading, Whole, Missing, Passes, reading, IsNamed}
 
@@ -20,7 +20,7 @@ use Rattle.program.specs.Reading.{Reading, Whole, Missing, Passes, reading, IsNa
 abbrev pub IsMade : Command → List (List ℕ) → List ℕ → List ℕ → Type 0
 IsMade commands.Body set new text = (clauses : ℕ) × IsRewriting (bytes_at set 0) new clauses × (text ≡ done_text clauses)
 IsMade (commands.Rewrite settings) set new text = KeepsRows (bytes_at set 0) 0 new × (text ≡ rewrite_text (length set) 0 0)
-IsMade commands.List set new text = (new ≡ []) × (text ≡ listed set)
+IsMade commands.List set new text = (new ≡ []) × IsListed set text
 
 -- The files are refused by this: a limit that they pass, or else the first broken rule.
 abbrev pub IsRefusal : Command → Reading → Refusal → Type 0

@@ -1,5 +1,5 @@
 // The program's commands.
-ghost use Rattle.std.specs.Prelude.{◌≡◌, ◌≢◌, ◌⊎◌, ℕ, ◌≤◌, ◌<◌, false, List, [], length, Option, option_map, IfOk, IsOkAnd, OnOk, IsTrue, IsSome};
+ghost use Rattle.std.specs.Prelude.{◌≡◌, ◌≢◌, ◌⊎◌, ℕ, ◌≤◌, ◌<◌, List, [], length, Option, option_map, IfOk, IsOkAnd, OnOk, IsTrue, IsSome};
 ghost use Rattle.cil_base.specs.Causes.{Rose};
 ghost use Rattle.cil_base.specs.Refusals.{OnRefused};
 ghost use Rattle.outside_core.specs.Store.{SameFiles};
@@ -10,9 +10,9 @@ ghost use Rattle.command_line.specs.declared.words.Command.{Command};
 ghost use Rattle.body_splice.specs.Rewrite.{IsRewriting, KeepsBodyRules, IsBodyRefusal};
 ghost use Rattle.cil_base.specs.declared.limits.TheConstants.{ASSEMBLY_LIMIT};
 ghost use Rattle.assembly_rewrite.specs.Rewrite.{KeepsRows};
-ghost use Rattle.set_check.specs.Sets.{bytes_at, IsSound, IsUnsound};
+ghost use Rattle.set_check.specs.Sets.{bytes_at};
 ghost use Rattle.set_rewrite.specs.Sets.{IsSetRefusal, KeepsSetRules};
-ghost use Rattle.set_list.specs.Lists.{listed};
+ghost use Rattle.set_list.specs.Lists.{IsListed, IsSound, IsUnsound};
 ghost use Rattle.program.specs.Layers.{IsInnerRefusal, KeepsInnerRules};
 ghost use Rattle.program.specs.Reading.{reading, AreWithin};
 ghost use Rattle.program.specs.Program.{IsMade, PutsFile, FromBytes, FileAnswer, Answer, Puts, Expected};
@@ -97,9 +97,9 @@ fn make_from_set(alloc: Global, files: &[Bytes]) -> Result<Output, Fault>
 fn make_list(alloc: Global, files: &[Bytes]) -> Result<Output, Fault>
     requires within { AreWithin files.now }
     requires some { 0 < length files.now }
-    ensures done { IfOk result (λ made. (made.bytes ≡ []) × (made.text ≡ listed files.now)) }
-    ensures accepted { OnOk result (IsSound false files.now) }
-    ensures refused { OnRefused result (IsUnsound false files.now) }
+    ensures done { IfOk result (λ made. (made.bytes ≡ []) × IsListed files.now made.text) }
+    ensures accepted { OnOk result (IsSound files.now) }
+    ensures refused { OnRefused result (IsUnsound files.now) }
 {
     match list_set(alloc, files) {
         Ok(text) => Ok(Output {

@@ -58,21 +58,42 @@ fn one_answer(alloc: Global, bytes: &[u8], want: (u8, &[u8])) -> Result<bool, Fa
     Ok(status == want.0 && out.taken() == want.1)
 }
 
-/// An assembly of three rows, one with contracts, and none.
+/// The line of an assembly without a class.
+const MODULE: &[u8] = b"type 02000001 <Module>\n";
+
+/// An assembly of three rows, one that names the class of contracts besides, and none.
 fn answers_of_one(alloc: Global) -> Result<bool, Fault> {
     let least = made(alloc, false, false)?;
     let with_contracts = made(alloc, false, true)?;
-    let contracts = b"refused: Z1 assembly 0 table 01 row 2 at 0\n".as_slice();
     let no_image = b"refused: P1 assembly 0 table 00 row 0 at 0\n".as_slice();
-    let is_listed = one_answer(alloc, &least, (0, b"type 02000001 <Module>\n"))?;
-    let is_refused = one_answer(alloc, &with_contracts, (1, contracts))?;
+    let is_listed = one_answer(alloc, &least, (0, MODULE))?;
+    let is_read = one_answer(alloc, &with_contracts, (0, MODULE))?;
     let is_unread = one_answer(alloc, b"", (1, no_image))?;
-    Ok(is_listed && is_refused && is_unread)
+    Ok(is_listed && is_read && is_unread)
 }
 
 #[test]
 fn one_assembly_is_listed_or_refused(rt: HostRuntime) -> Result<(), Fault> {
     let holds = answers_of_one(rt.alloc())?;
+    assert!(rt; holds);
+    Ok(())
+}
+
+/// Whether `list a.dll b.dll` refuses `b.dll`, which names the class of contracts.
+fn other_contracts_wait(alloc: Global) -> Result<bool, Fault> {
+    let mut store = MemStore::new(alloc, U32s::new(alloc));
+    store.put_file("a.dll", &made(alloc, false, true)?)?;
+    store.put_file("b.dll", &made_as(alloc, true, false, true)?)?;
+    let mut out = MemSink::new(alloc, 100, U32s::new(alloc))?;
+    let words = words_from(alloc, &["list", "a.dll", "b.dll"])?;
+    let status = run_words(alloc, words.as_slice(), &mut store, &mut out);
+    let text = b"refused: Z1 assembly 1 table 01 row 2 at 0\n".as_slice();
+    Ok(status == 1 && out.taken() == text)
+}
+
+#[test]
+fn contracts_of_another_assembly_wait(rt: HostRuntime) -> Result<(), Fault> {
+    let holds = other_contracts_wait(rt.alloc())?;
     assert!(rt; holds);
     Ok(())
 }
