@@ -8,6 +8,8 @@ mod circles;
 #[cfg(test)]
 mod code;
 #[cfg(test)]
+mod contracts;
+#[cfg(test)]
 mod generics;
 #[cfg(test)]
 mod owned_members;

@@ -245,11 +245,11 @@ CustomAttribute 46, 11, 01 00 00 00";
 fn a_reference_assembly_is_not_rewritten(rt: HostRuntime) {
     let alloc = rt.alloc();
     const REFUSED: &str = "refused: N5 assembly 0 table 20 row 1 at 0\n";
-    const CONTRACTS: &str = "refused: Z1 assembly 0 table 01 row 1 at 0\n";
     const OF_SECOND: &str = "refused: Z1 assembly 1 table 01 row 1 at 0\n";
     assert!(rt; rewrites(alloc, &[A, REFERENCE], REFUSED));
     assert!(rt; rewrites(alloc, &[A, B, REFERENCE], OF_SECOND));
-    assert!(rt; lists(alloc, &[A, REFERENCE], CONTRACTS));
+    assert!(rt; lists(alloc, &[A, REFERENCE], MODULE));
+    assert!(rt; lists(alloc, &[A, B, REFERENCE], OF_SECOND));
 }
 
 #[test]
