@@ -4,3 +4,4 @@ pub mod CopyLaws
 pub mod JoinLaws
 pub mod EntryLaws
 pub mod RunLaws
+pub mod ObjectLaws

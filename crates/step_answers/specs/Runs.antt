@@ -14,7 +14,6 @@ use Rattle.machine_laws.specs.Same.{IsEntry, bound_of, plain_step}
 use Rattle.machine_laws.specs.Simulation.{Lifted}
 use Rattle.splice_facts.specs.Related.{Rewritten, AlikeWorlds, written}
 use Rattle.valid_calls.specs.Steps.{IsAsked}
-use Rattle.step_answers.specs.Answering.{ObjectsThere}
 
 -- None is over at once: the arguments fit, and no initializer has failed (ECMA-335, II.10.5.3).
 abbrev pub EntriesBegin : Type 0
@@ -22,9 +21,8 @@ EntriesBegin = (p : Program) (k : Contracts) (m : ℕ) (args : List Value) (rs :
 
 module _ (p : Program) (k : Contracts) (ms : List MethodDesc) (g : AddedNumbers) (r : Rewritten p k ms g) where
   -- what is asked of a state besides that it is sound
-  pub record AskedNow (s : State) : Type 0 where
-    pub objects : (f : Frame) (fs : List Frame) → s.frames ≡ f ∷ fs → ObjectsThere p k ms g r f fs s.world
-    pub steps : (f : Frame) (fs : List Frame) → s.frames ≡ f ∷ fs → IsAsked p k ms g r f fs (unrecorded s.world)
+  abbrev pub AskedNow : State → Type 0
+  AskedNow s = (f : Frame) (fs : List Frame) → s.frames ≡ f ∷ fs → IsAsked p k ms g r f fs (unrecorded s.world)
 
   -- and of each that a run comes to from it
   abbrev pub AskedAlong : State → Type 0
