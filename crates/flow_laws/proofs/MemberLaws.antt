@@ -20,7 +20,7 @@ use Rattle.cil_semantics.specs.declared.state.Remaining.{Remaining}
 use Rattle.cil_semantics.specs.declared.state.Remaining.TheVariants.{Range, Elements}
 use Rattle.cil_semantics.specs.declared.state.Frame.{Frame}
 use Rattle.cil_semantics.specs.declared.state.World.{World}
-use Rattle.cil_semantics.specs.Words.{maybe}
+use Rattle.cil_semantics.specs.Words.{maybe, same_bool}
 use Rattle.cil_semantics.specs.Core.{Name, class_named, string_ty, event_params, helper_name, event_name}
 use Rattle.cil_semantics.specs.Types.{under, all_under, same_ty, same_tys}
 use Rattle.cil_semantics.specs.Dispatch.{Seen}
@@ -31,7 +31,7 @@ use Rattle.cil_semantics.specs.State.{Next, next_object, with_object}
 use Rattle.cil_semantics.specs.Acts.{Call, dynamic_type, is_null, ty_name}
 use Rattle.cil_semantics.specs.Outside.{Member, Answer, Returned, Threw, Unfit, ask, ask_new, member_of, is_outside, answered, result_of, recorded, thrown_out, stored_back, by_ref_args, pointer_in, fits, default_reply, making, new_result, next_reply}
 use Rattle.cil_semantics.specs.Returns.{push_below, try_next}
-use Rattle.cil_semantics.specs.Calls.{CoreMember, Constructor, Equality, Concatenation, TextLength, IsNullOrEmpty, Quantifier, NotCore, core_of, string_answer, count_units, first_texted, Texted, NullText, SomeText, NotText, on_answer, is_event, is_named, outside_call, number_in, array_in, quantify, plain_call, call_core, call_member, body_seen, call_unfound, call_found, is_invoke, call_on, pointed, own_body, call_boxed, call_struct, call_constrained, call_virtual_on, call_virtual, function_of, find_virtual_on, pushes_new, use_answer, makes_delegate, make_core, make_own, make_outside, make, new_object, delegate_cells}
+use Rattle.cil_semantics.specs.Calls.{CoreMember, Constructor, Equality, Concatenation, TextLength, IsNullOrEmpty, Quantifier, NotCore, core_of, string_answer, count_units, first_texted, Texted, NullText, SomeText, NotText, on_answer, is_event, is_named, outside_call, number_in, array_in, quantify, plain_call, call_core, call_member, body_seen, call_unfound, call_found, is_invoke, call_on, pointed, own_body, call_boxed, call_struct, call_constrained, call_virtual_on, call_virtual, function_of, find_virtual_on, pushes_new, use_answer, makes_delegate, make_core, make_own, make_outside, make, new_object, delegate_cells, gives_alike}
 use Rattle.cil_semantics.specs.Unwind.{raise}
 use Rattle.cil_semantics.specs.Frames.{stuck, if_there, this_type, param_types, enter_struct, next_try, stored_args, write, read, gives_value, enter, enter_delegate, this_value}
 use Rattle.flow_laws.specs.Shapes.{HeightsOf, count_of, Over, Lie, NextInShape}
@@ -282,13 +282,24 @@ module _ (p : Program) (k : Contracts) (height : HeightsOf) (plain : IsPlain p k
   abbrev WaitsFor : Call → List Frame → Type 0
   WaitsFor c fs = Waiting (count_given p c.owner c.method c.method_args) fs
 
-  calls_seen : (t : Ty) (s : Seen) (c : Call) (values : List Value) (fs : List Frame) (w : World) → body_seen p t (c.owner, c.method) ≡ Some s → WaitsFor c fs → NextInShape p height (plain_call p k s.0 s.1 c.method_args values fs w)
-  calls_seen t s c values fs w e l =
-      calls_plainly s.0 s.1 c.method_args values fs w (subst (λ n. Awaits p k height plain ok n fs) (sym (ok.found t c.owner c.method c.method_args s e)) l.0, l.1)
+  counted : (b c : Bool) → same_bool (not b) (not c) ≡ true → ◌≡◌ {A = ℕ} (if b then 0 else 1) (if c then 0 else 1)
+  counted true true e = refl
+  counted true false e = absurd cc
+  counted false true e = absurd cc
+  counted false false e = refl
 
-  calls_found : (o : Option Seen) (t : Ty) (c : Call) (this : Value) (values : List Value) (fs : List Frame) (w : World) → body_seen p t (c.owner, c.method) ≡ o → WaitsFor c fs → NextInShape p height (call_found p k o t c this values fs w)
-  calls_found None t c this values fs w e l = calls_unfound (core_of p c.owner c.method) c fs w (ok.core c.owner c.method c.method_args) l
-  calls_found (Some s) t c this values fs w e l = calls_seen t s c (this_value p t (out-Value this) this ∷ values) fs w e l
+  calls_seen : (s : Seen) (c : Call) (values : List Value) (fs : List Frame) (w : World) → WaitsFor c fs → NextInShape p height (if gives_alike p c s then plain_call p k s.0 s.1 c.method_args values fs w else stuck w)
+  calls_seen s c values fs w l = go (gives_alike p c s) refl
+    where
+      go : (b : Bool) → gives_alike p c s ≡ b → NextInShape p height (if b then plain_call p k s.0 s.1 c.method_args values fs w else stuck w)
+      go false e = tt
+      go true e =
+          calls_plainly s.0 s.1 c.method_args values fs w
+          (subst (λ n. Awaits p k height plain ok n fs) (counted (is_void (storage p (under (args_of c.owner) c.method_args (method_of p c.method).result))) (is_void (storage p (under (args_of s.0) c.method_args (method_of p s.1).result))) e) l.0, l.1)
+
+  calls_found : (o : Option Seen) (t : Ty) (c : Call) (this : Value) (values : List Value) (fs : List Frame) (w : World) → WaitsFor c fs → NextInShape p height (call_found p k o t c this values fs w)
+  calls_found None t c this values fs w l = calls_unfound (core_of p c.owner c.method) c fs w (ok.core c.owner c.method c.method_args) l
+  calls_found (Some s) t c this values fs w l = calls_seen s c (this_value p t (out-Value this) this ∷ values) fs w l
 
   gives_count : (b : Bool) → ◌≡◌ {A = ℕ} (if b then 0 else 1) (if not b then 1 else 0)
   gives_count true = refl
@@ -299,23 +310,12 @@ module _ (p : Program) (k : Contracts) (height : HeightsOf) (plain : IsPlain p k
     where
       typed : (o : Option Ty) → NextInShape p height (if_there o w (λ t. call_found p k (body_seen p t (c.owner, c.method)) t c this values fs w))
       typed None = tt
-      typed (Some t) = calls_found (body_seen p t (c.owner, c.method)) t c this values fs w refl l
+      typed (Some t) = calls_found (body_seen p t (c.owner, c.method)) t c this values fs w l
 
       go : (a b : Bool) → NextInShape p height (if a then raise p k (codes "System.NullReferenceException") fs w else if b then enter_delegate p k (gives_value p c.owner c.method c.method_args) (out-Value this) values Push fs w else if_there (dynamic_type w this) w (λ t. call_found p k (body_seen p t (c.owner, c.method)) t c this values fs w))
       go true b = raises p k height plain ok (codes "System.NullReferenceException") fs w l.1
       go false true = calls_delegate p k height plain ok (gives_value p c.owner c.method c.method_args) (count_given p c.owner c.method c.method_args) (out-Value this) values fs w (gives_count (is_void (storage p (under (args_of c.owner) c.method_args (method_of p c.method).result)))) l.0 l.1
       go false false = typed (dynamic_type w this)
-
-  own_found : (p : Program) (t : Ty) (x s : Seen) → own_body p t x ≡ Some s → body_seen p t x ≡ Some s
-  own_found p t x s e = go (body_seen p t x) e
-    where
-      kept : (y : Seen) (b : Bool) → (if b then Some y else None) ≡ Some s → Some y ≡ Some s
-      kept y true f = f
-      kept y false f = absurd cc
-
-      go : (o : Option Seen) → option_and_then (λ (y : Seen). if same_ty y.0 t then Some y else None) o ≡ Some s → o ≡ Some s
-      go None f = absurd cc
-      go (Some y) f = kept y (same_ty y.0 t) f
 
   calls_boxed : (t : Ty) (v : Value) (c : Call) (values : List Value) (fs : List Frame) (w : World) → WaitsFor c fs → NextInShape p height (call_boxed p k t v c values fs w)
   calls_boxed t v c values fs w l = go (new_cell p t v)
@@ -324,9 +324,9 @@ module _ (p : Program) (k : Contracts) (height : HeightsOf) (plain : IsPlain p k
       go None = tt
       go (Some cell) = calls_on (record c { values = Obj (next_object w) ∷ values }) (Obj (next_object w)) values fs (with_object p (record { ty = t; cells = cell ∷ [] }) w) l
 
-  calls_struct : (o : Option Seen) (t : Ty) (q : Pointer) (c : Call) (values : List Value) (fs : List Frame) (w : World) → own_body p t (c.owner, c.method) ≡ o → WaitsFor c fs → NextInShape p height (call_struct p k o t q c values fs w)
-  calls_struct (Some s) t q c values fs w e l = calls_seen t s c (Ptr q ∷ values) fs w (own_found p t (c.owner, c.method) s e) l
-  calls_struct None t q c values fs w e l = go (read p fs w q)
+  calls_struct : (o : Option Seen) (t : Ty) (q : Pointer) (c : Call) (values : List Value) (fs : List Frame) (w : World) → WaitsFor c fs → NextInShape p height (call_struct p k o t q c values fs w)
+  calls_struct (Some s) t q c values fs w l = calls_seen s c (Ptr q ∷ values) fs w l
+  calls_struct None t q c values fs w l = go (read p fs w q)
     where
       go : (o : Option Value) → NextInShape p height (if_there o w (λ v. call_boxed p k t v c values fs w))
       go None = tt
@@ -342,7 +342,7 @@ module _ (p : Program) (k : Contracts) (height : HeightsOf) (plain : IsPlain p k
 
       by_kind : (q : Pointer) (b : Bool) → NextInShape p height (if b then if_there (read p fs w q) w (λ v. call_on p k (record c { values = v ∷ values }) v values fs w) else call_struct p k (own_body p t (c.owner, c.method)) t q c values fs w)
       by_kind q true = referred q (read p fs w q)
-      by_kind q false = calls_struct (own_body p t (c.owner, c.method)) t q c values fs w refl l
+      by_kind q false = calls_struct (own_body p t (c.owner, c.method)) t q c values fs w l
 
       go : (o : Option Pointer) → NextInShape p height (if_there o w (λ q. if is_reference (storage p t) then if_there (read p fs w q) w (λ v. call_on p k (record c { values = v ∷ values }) v values fs w) else call_struct p k (own_body p t (c.owner, c.method)) t q c values fs w))
       go None = tt

@@ -7,12 +7,11 @@ use Rattle.cil_model.specs.declared.program.Meaning.TheVariants.{OfMethod}
 use Rattle.cil_model.specs.declared.contract.Contracts.{Contracts}
 use Rattle.cil_model.specs.ValidBody.{IsValid}
 use Rattle.cil_semantics.specs.Lookups.{method_of, args_of}
-use Rattle.cil_semantics.specs.Dispatch.{Seen}
 use Rattle.cil_semantics.specs.Types.{under}
 use Rattle.cil_semantics.specs.Tokens.{meaning_here}
 use Rattle.cil_semantics.specs.declared.state.Frame.{Frame}
 use Rattle.cil_semantics.specs.Unwind.{body_of, here_of, place_in, plan_at}
-use Rattle.cil_semantics.specs.Calls.{CoreMember, Constructor, NotCore, core_of, body_seen}
+use Rattle.cil_semantics.specs.Calls.{CoreMember, Constructor, NotCore, core_of}
 use Rattle.il_flow.specs.declared.answer.Heights.{Heights}
 use Rattle.il_flow.specs.Effects.{count_results, effect_of}
 use Rattle.il_flow.specs.Heights.{Agrees}
@@ -32,12 +31,11 @@ CorePushes Constructor n = n ≡ 0
 CorePushes NotCore n = Unit {0}
 CorePushes _ n = n ≡ 1
 
--- Each body can be written and has heights; members of the core classes have the class library's signatures; and the body that a virtual call finds gives a value just where the member does that is called.
+-- Each body can be written and has heights, and members of the core classes have the class library's signatures.
 pub record Measured (p : Program) (height : HeightsOf) : Type 0 where
   pub valid : (m : ℕ) → (a : ℕ) × IsValid a (body_of p m)
   pub heights : (m : ℕ) → Agrees (effect_of p (method_of p m)) (body_of p m) (height m)
   pub core : (owner : Ty) (m : ℕ) (args : List Ty) → CorePushes (core_of p owner m) (count_given p owner m args)
-  pub found : (t owner : Ty) (m : ℕ) (args : List Ty) (s : Seen) → body_seen p t (owner, m) ≡ Some s → count_given p s.0 s.1 args ≡ count_given p owner m args
 
 -- no method has a contract: a plain run, or one of a program without any
 abbrev pub IsPlain : Program → Contracts → Type 0

@@ -23,7 +23,7 @@ use Rattle.cil_semantics.specs.Unwind.{raise}
 use Rattle.cil_semantics.specs.Frames.{stuck, if_there, read, this_value, gives_value, enter, enter_delegate, next_try}
 use Rattle.cil_semantics.specs.Outside.{is_outside}
 use Rattle.cil_semantics.specs.Returns.{push_below, try_next}
-use Rattle.cil_semantics.specs.Calls.{CoreMember, Constructor, Equality, Concatenation, TextLength, IsNullOrEmpty, Quantifier, NotCore, core_of, Texted, NullText, SomeText, NotText, texted, same_text, units_of, joined, is_empty_text, wanted_flag, string_answer, count_units, outside_call, number_in, array_in, quantify, plain_call, first_texted, call_core, call_member, body_seen, call_unfound, call_found, is_invoke, call_on, pointed, own_body, call_boxed, call_struct, call_constrained, call_virtual_on, call_virtual, function_of, find_virtual_on}
+use Rattle.cil_semantics.specs.Calls.{CoreMember, Constructor, Equality, Concatenation, TextLength, IsNullOrEmpty, Quantifier, NotCore, core_of, Texted, NullText, SomeText, NotText, texted, same_text, units_of, joined, is_empty_text, wanted_flag, string_answer, count_units, outside_call, number_in, array_in, quantify, plain_call, first_texted, call_core, call_member, body_seen, gives_alike, call_unfound, call_found, is_invoke, call_on, pointed, own_body, call_boxed, call_struct, call_constrained, call_virtual_on, call_virtual, function_of, find_virtual_on}
 use Rattle.object_validity.specs.Known.{KnownValue, KnownValues, KnownWorld, KnownFrames, KeepsReferences}
 use Rattle.object_validity.proofs.StoredLaws.{read_fine, boxed_fine}
 use Rattle.object_validity.proofs.GrowthLaws.{grown_value, grown_values, grown_frames, object_added, new_known}
@@ -136,7 +136,7 @@ module _ (p : Program) (k : Contracts) where
   found_known : (b : ℕ) (o : Option Seen) (t : Ty) (c : Call) (this : Value) (values : List Value) (fs : List Frame) (w : World) → KnownValues b c.values → KnownValue b this → KnownValues b values → KnownFrames b fs → KnownWorld b w → Keeps (call_found p k o t c this values fs w)
   found_known b None t c this values fs w kc kt kv ks kw = unfound_known b (core_of p c.owner c.method) c fs w kc ks kw
   found_known b (Some s) t c this values fs w kc kt kv ks kw =
-      called_plainly b s.0 s.1 c.method_args (this_value p t (out-Value this) this ∷ values) fs w (this_known b p t this kt, kv) ks kw
+      either_known (gives_alike p c s) (plain_call p k s.0 s.1 c.method_args (this_value p t (out-Value this) this ∷ values) fs w) (stuck w) (called_plainly b s.0 s.1 c.method_args (this_value p t (out-Value this) this ∷ values) fs w (this_known b p t this kt, kv) ks kw) tt
 
   virtually_known : (b : ℕ) (c : Call) (this : Value) (values : List Value) (fs : List Frame) (w : World) → KnownValues b c.values → KnownValue b this → KnownValues b values → KnownFrames b fs → KnownWorld b w → Keeps (call_on p k c this values fs w)
   virtually_known b c this values fs w kc kt kv ks kw =
@@ -155,7 +155,7 @@ module _ (p : Program) (k : Contracts) where
       (object_added b p (record { ty = t; cells = cell ∷ [] }) w (grown_value b cell.value (boxed_fine b p t v cell kv e), tt) kw))
 
   struct_known : (b : ℕ) (o : Option Seen) (t : Ty) (q : Pointer) (c : Call) (values : List Value) (fs : List Frame) (w : World) → KnownValues b values → KnownFrames b fs → KnownWorld b w → Keeps (call_struct p k o t q c values fs w)
-  struct_known b (Some s) t q c values fs w kv ks kw = called_plainly b s.0 s.1 c.method_args (Ptr q ∷ values) fs w (tt, kv) ks kw
+  struct_known b (Some s) t q c values fs w kv ks kw = either_known (gives_alike p c s) (plain_call p k s.0 s.1 c.method_args (Ptr q ∷ values) fs w) (stuck w) (called_plainly b s.0 s.1 c.method_args (Ptr q ∷ values) fs w (tt, kv) ks kw) tt
   struct_known b None t q c values fs w kv ks kw = there_known (read p fs w q) w (λ v. call_boxed p k t v c values fs w) (λ v e. boxed_known b t v c values fs w (read_fine b p fs w q v ks kw e) kv ks kw)
 
   constrained_known : (b : ℕ) (o : Option Ty) (c : Call) (this : Value) (values : List Value) (fs : List Frame) (w : World) → KnownValues b c.values → KnownValue b this → KnownValues b values → KnownFrames b fs → KnownWorld b w → Keeps (call_constrained p k o c this values fs w)

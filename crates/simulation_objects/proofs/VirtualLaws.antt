@@ -10,6 +10,7 @@ use Rattle.cil_model.specs.declared.contract.Contracts.{Contracts}
 use Rattle.cil_model.specs.declared.program.Program.{Program}
 use Rattle.cil_model.specs.declared.program.MethodDesc.{MethodDesc}
 use Rattle.cil_model.specs.NoContracts.{no_contracts}
+use Rattle.cil_semantics.specs.Words.{same_bool}
 use Rattle.cil_semantics.specs.Types.{same_ty}
 use Rattle.cil_semantics.specs.Lookups.{method_of}
 use Rattle.cil_semantics.specs.Dispatch.{Seen}
@@ -25,7 +26,7 @@ use Rattle.cil_semantics.specs.Unwind.{raise}
 use Rattle.cil_semantics.specs.Frames.{stuck, if_there, read, this_value, gives_value, enter_delegate}
 use Rattle.cil_semantics.specs.Outside.{is_outside}
 use Rattle.cil_semantics.specs.Returns.{push_below}
-use Rattle.cil_semantics.specs.Calls.{CoreMember, Constructor, Equality, Concatenation, TextLength, IsNullOrEmpty, Quantifier, NotCore, core_of, outside_call, plain_call, body_seen, own_body, call_unfound, call_found, is_invoke, may_be_delegate, is_delegate_at, call_on, pointed, call_boxed, call_struct, call_constrained, call_virtual_on, call_virtual, function_of, find_virtual_on}
+use Rattle.cil_semantics.specs.Calls.{CoreMember, Constructor, Equality, Concatenation, TextLength, IsNullOrEmpty, Quantifier, NotCore, core_of, outside_call, plain_call, body_seen, own_body, call_unfound, call_found, is_invoke, may_be_delegate, is_delegate_at, call_on, pointed, call_boxed, call_struct, call_constrained, call_virtual_on, call_virtual, function_of, find_virtual_on, gives_alike}
 use Rattle.cil_semantics.specs.Checks.{AddedNumbers}
 use Rattle.splice_facts.proofs.ExceptionLaws.{more_failures, longer}
 use Rattle.splice_facts.specs.Bodies.{with_methods}
@@ -94,13 +95,34 @@ module _ (p : Program) (k : Contracts) (ms : List MethodDesc) (g : AddedNumbers)
   unfound IsNullOrEmpty c fs fs' w ss old fine z = Calling.calls_core p k ms g r IsNullOrEmpty c.owner c.method c.method_args c.values fs fs' w ss old.0 old.1 z fine
   unfound (Quantifier e) c fs fs' w ss old fine z = Calling.calls_core p k ms g r (Quantifier e) c.owner c.method c.method_args c.values fs fs' w ss old.0 old.1 z fine
 
+  alike_same : (c : Call) (s : Seen) → gives_alike p' c s ≡ gives_alike p c s
+  alike_same c s =
+      ap (λ b. same_bool b (gives_value p' s.0 s.1 c.method_args)) (Delegating.gives_same p k ms g r c.owner c.method c.method_args)
+      ∙ ap (same_bool (gives_value p c.owner c.method c.method_args)) (Delegating.gives_same p k ms g r s.0 s.1 c.method_args)
+
+  -- a body that is found is called, where it gives a value just where the member does
+  seen : (s : Seen) (c : Call) (values values' : List Value) (fs fs' : List Frame) (w : World) (ss : List Statics) → values' ≡ values → Old s.0 s.1 → AllFine values → Site fs fs' w ss
+      → To (big (length fs)) (if gives_alike p c s then plain_call p k s.0 s.1 c.method_args values fs w else stuck w) (if gives_alike p' c s then plain_call p' no_contracts s.0 s.1 c.method_args values' fs' (beside ss w) else stuck (beside ss w))
+  seen s c values values' fs fs' w ss same there fv z =
+      subst (λ b. To (big (length fs)) (first (gives_alike p c s)) (second b values')) (sym (alike_same c s))
+      (subst (λ vs. To (big (length fs)) (first (gives_alike p c s)) (second (gives_alike p c s) vs)) (sym same) (by_test (gives_alike p c s)))
+    where
+      first : Bool → Next
+      first b = if b then plain_call p k s.0 s.1 c.method_args values fs w else stuck w
+
+      second : Bool → List Value → Next
+      second b vs = if b then plain_call p' no_contracts s.0 s.1 c.method_args vs fs' (beside ss w) else stuck (beside ss w)
+
+      by_test : (b : Bool) → To (big (length fs)) (first b) (second b values)
+      by_test true = Calling.calls_plainly p k ms g r s.0 s.1 c.method_args values fs fs' w ss there.0 there.1 z fv
+      by_test false = Arriving.stuck_both p k ms g r _ w ss z.alike
+
   found : (o : Option Seen) (t : Ty) (c : Call) (this : Value) (values : List Value) (fs fs' : List Frame) (w : World) (ss : List Statics) → ((s : Seen) → o ≡ Some s → Old s.0 s.1) → Old c.owner c.method → AllFine c.values → Fine this → AllFine values → Site fs fs' w ss
       → To (big (length fs)) (call_found p k o t c this values fs w) (call_found p' no_contracts o t c this values fs' (beside ss w))
   found None t c this values fs fs' w ss there old fine ft fv z =
       subst (λ x. To (big (length fs)) (call_unfound p k (core_of p c.owner c.method) c fs w) (call_unfound p' no_contracts x c fs' (beside ss w))) (sym (Calling.core_same p k ms g r c.owner c.method)) (unfound (core_of p c.owner c.method) c fs fs' w ss old fine z)
   found (Some s) t c this values fs fs' w ss there old fine ft fv z =
-      subst (λ v. To (big (length fs)) (plain_call p k s.0 s.1 c.method_args (this_value p t (out-Value this) this ∷ values) fs w) (plain_call p' no_contracts s.0 s.1 c.method_args (v ∷ values) fs' (beside ss w))) (sym (Delegating.this_value_same p k ms g r t (out-Value this) this))
-      (Calling.calls_plainly p k ms g r s.0 s.1 c.method_args (this_value p t (out-Value this) this ∷ values) fs fs' w ss (there s refl).0 (there s refl).1 z (this_fine t (out-Value this) this ft, fv))
+      seen s c (this_value p t (out-Value this) this ∷ values) (this_value p' t (out-Value this) this ∷ values) fs fs' w ss (ap (λ v. v ∷ values) (Delegating.this_value_same p k ms g r t (out-Value this) this)) (there s refl) (this_fine t (out-Value this) this ft, fv) z
 
   -- ---- a virtual call on a value
 
@@ -181,7 +203,7 @@ module _ (p : Program) (k : Contracts) (ms : List MethodDesc) (g : AddedNumbers)
 
     calls_struct : (o : Option Seen) (t : Ty) (q : Pointer) (values : List Value) → ((s : Seen) → o ≡ Some s → Old s.0 s.1) → WellFormedPointer (bounds p k ms g r) q → AllFine values
         → To (big (length fs)) (call_struct p k o t q c values fs w) (call_struct p' no_contracts o t q c values fs' (beside ss w))
-    calls_struct (Some s) t q values there fq fv = Calling.calls_plainly p k ms g r s.0 s.1 c.method_args (Ptr q ∷ values) fs fs' w ss (there s refl).0 (there s refl).1 z (fq, fv)
+    calls_struct (Some s) t q values there fq fv = seen s c (Ptr q ∷ values) (Ptr q ∷ values) fs fs' w ss refl (there s refl) (fq, fv) z
     calls_struct None t q values there fq fv =
         subst (λ o. To (big (length fs)) (if_there (read p fs w q) w (λ v. call_boxed p k t v c values fs w)) (if_there o (beside ss w) (λ v. call_boxed p' no_contracts t v c values fs' (beside ss w)))) (sym (reads_here q fs fs' w ss fq z)) (by_value (read p fs w q) (λ v e. read_fine (bounds p k ms g r) p fs w q v a.frames a.world e))
       where

@@ -8,9 +8,10 @@ use Rattle.cil_model.specs.declared.value.Pointer.{Pointer}
 use Rattle.cil_model.specs.declared.contract.Contracts.{Contracts}
 use Rattle.cil_model.specs.declared.program.Program.{Program}
 use Rattle.cil_model.specs.declared.program.MethodDesc.{MethodDesc}
+use Rattle.cil_semantics.specs.Words.{same_bool}
 use Rattle.cil_semantics.specs.Lookups.{method_of, args_of}
 use Rattle.cil_semantics.specs.Places.{storage, is_void, is_reference, new_cell}
-use Rattle.cil_semantics.specs.Types.{same_ty}
+use Rattle.cil_semantics.specs.Types.{same_ty, under}
 use Rattle.cil_semantics.specs.Dispatch.{Seen}
 use Rattle.cil_semantics.specs.Acts.{Call, dynamic_type, is_null}
 use Rattle.cil_semantics.specs.declared.state.Cell.{Cell}
@@ -23,7 +24,7 @@ use Rattle.cil_semantics.specs.Unwind.{raise}
 use Rattle.cil_semantics.specs.Frames.{stuck, if_there, read, gives_value, enter_delegate, this_value}
 use Rattle.cil_semantics.specs.Returns.{push_below}
 use Rattle.cil_semantics.specs.Outside.{is_outside}
-use Rattle.cil_semantics.specs.Calls.{CoreMember, Constructor, Equality, Concatenation, TextLength, IsNullOrEmpty, Quantifier, NotCore, core_of, outside_call, call_unfound, call_found, body_seen, own_body, is_invoke, call_on, pointed, call_boxed, call_struct, call_constrained, call_virtual_on, call_virtual, function_of, find_virtual_on}
+use Rattle.cil_semantics.specs.Calls.{CoreMember, Constructor, Equality, Concatenation, TextLength, IsNullOrEmpty, Quantifier, NotCore, core_of, outside_call, call_unfound, call_found, body_seen, own_body, is_invoke, call_on, pointed, call_boxed, call_struct, call_constrained, call_virtual_on, call_virtual, function_of, find_virtual_on, gives_alike}
 use Rattle.cil_semantics.specs.Checks.{AddedNumbers}
 use Rattle.machine_laws.specs.Answers.{is_below}
 use Rattle.splice_facts.specs.WellFormed.{Bounds, NoneVoid, WellFormedValue, WellFormedValues, WellFormedPointer}
@@ -38,7 +39,7 @@ use Rattle.simulation_valid.proofs.PushValidLaws.{pushes_valid}
 use Rattle.simulation_valid.proofs.MoveValidLaws.{frames_fine}
 use Rattle.simulation_valid.proofs.CallValidLaws.{caller_waits, calls_outside_valid, calls_plainly_valid}
 use Rattle.simulation_valid.proofs.DelegateValidLaws.{this_fine, delegate_enters}
-use Rattle.valid_calls.specs.Steps.{FindsGiving}
+use Rattle.valid_calls.specs.Steps.{FindsWhole}
 use Rattle.valid_calls.proofs.MemberLaws.{by_core, raises}
 
 twice : (x : Bool) → not (not x) ≡ x
@@ -88,7 +89,7 @@ module _ (p : Program) (k : Contracts) (ms : List MethodDesc) (g : AddedNumbers)
     Waits fs w = MayCall p k ms g r m fs w
 
     abbrev Finds : Ty → Type 0
-    Finds t = FindsGiving p (owner, m) t
+    Finds t = FindsWhole p (owner, m) t
 
     module _ (gives : GivesAsDescribed (core_of p owner m) (result_count p m)) where
       unfound : (x : CoreMember) → GivesAsDescribed x (result_count p m) → (all : List Value) (q : Option Ty) (fs : List Frame) (w : World) → AllFine all → Waits fs w → Stays (call_unfound p k x (named all q) fs w)
@@ -104,18 +105,31 @@ module _ (p : Program) (k : Contracts) (ms : List MethodDesc) (g : AddedNumbers)
       unfound IsNullOrEmpty y all q fs w fa c = by_core p k ms g r IsNullOrEmpty owner m args all fs w old own na nb fa y c
       unfound (Quantifier e) y all q fs w fa c = by_core p k ms g r (Quantifier e) owner m args all fs w old own na nb fa y c
 
-      plainly : (t : Ty) (s : Seen) (values : List Value) (fs : List Frame) (w : World) → Finds t → body_seen p t (owner, m) ≡ Some s → AllFine values → Waits fs w → Stays (Rattle.cil_semantics.specs.Calls.plain_call p k s.0 s.1 args values fs w)
-      plainly t s values fs w f e fv c =
-          let there = r.found t (owner, m) s old own e in
-          let full = f s e in
-          calls_plainly_valid p k ms g r s.0 s.1 args values fs w there.0 there.1 full.0 nb fv (as_many m s.1 fs w full.1 c)
-
-      found : (o : Option Seen) (t : Ty) (this : Value) (values all : List Value) (q : Option Ty) (fs : List Frame) (w : World) → body_seen p t (owner, m) ≡ o → Finds t → Fine this → AllFine values → AllFine all → Waits fs w → Stays (call_found p k o t (named all q) this values fs w)
-      found None t this values all q fs w e f ft fv fa c = unfound (core_of p owner m) gives all q fs w fa c
-      found (Some s) t this values all q fs w e f ft fv fa c = plainly t s (this_value p t (out-Value this) this ∷ values) fs w f e (this_fine p k ms g r t (out-Value this) this ft, fv) c
+      both_give : (b c : Bool) → same_bool b (not c) ≡ true → c ≡ not b
+      both_give true true e = absurd cc
+      both_give true false e = refl
+      both_give false true e = refl
+      both_give false false e = absurd cc
 
       wanted : (n : ℕ) → is_void (storage p (method_of p n).result) ≡ not (gives_value p owner m args) → result_count p n ≡ result_count p m
       wanted n e = ap (λ (c : Bool). if c then 0 else 1) (e ∙ twice _ ∙ void_stays p (args_of owner) args na nb (method_of p m).result)
+
+      plainly : (t : Ty) (s : Seen) (values all : List Value) (q : Option Ty) (fs : List Frame) (w : World) → Finds t → body_seen p t (owner, m) ≡ Some s → AllFine values → Waits fs w
+          → Stays (if gives_alike p (named all q) s then Rattle.cil_semantics.specs.Calls.plain_call p k s.0 s.1 args values fs w else stuck w)
+      plainly t s values all q fs w f e fv c = by_test (gives_alike p (named all q) s) refl
+        where
+          by_test : (b : Bool) → gives_alike p (named all q) s ≡ b → Stays (if b then Rattle.cil_semantics.specs.Calls.plain_call p k s.0 s.1 args values fs w else stuck w)
+          by_test false y = tt
+          by_test true y =
+              let there = r.found t (owner, m) s old own e in
+              let full = f s e in
+              let same : is_void (storage p (method_of p s.1).result) ≡ not (gives_value p owner m args) =
+                  sym (void_stays p (args_of s.0) args full nb (method_of p s.1).result) ∙ both_give (gives_value p owner m args) (is_void (storage p (under (args_of s.0) args (method_of p s.1).result))) y in
+              calls_plainly_valid p k ms g r s.0 s.1 args values fs w there.0 there.1 full nb fv (as_many m s.1 fs w (wanted s.1 same) c)
+
+      found : (o : Option Seen) (t : Ty) (this : Value) (values all : List Value) (q : Option Ty) (fs : List Frame) (w : World) → body_seen p t (owner, m) ≡ o → Finds t → Fine this → AllFine values → AllFine all → Waits fs w → Stays (call_found p k o t (named all q) this values fs w)
+      found None t this values all q fs w e f ft fv fa c = unfound (core_of p owner m) gives all q fs w fa c
+      found (Some s) t this values all q fs w e f ft fv fa c = plainly t s (this_value p t (out-Value this) this ∷ values) all q fs w f e (this_fine p k ms g r t (out-Value this) this ft, fv) c
 
       calls_on : (this : Value) (values all : List Value) (q : Option Ty) (fs : List Frame) (w : World) → ((t : Ty) → dynamic_type w this ≡ Some t → Finds t) → Fine this → AllFine values → AllFine all → Waits fs w → Stays (call_on p k (named all q) this values fs w)
       calls_on this values all q fs w f ft fv fa c = by_tests (is_null this) (is_invoke p w (named all q) this)
@@ -160,7 +174,7 @@ module _ (p : Program) (k : Contracts) (ms : List MethodDesc) (g : AddedNumbers)
         read_there x v fx e = read_fine Bs p fs w x v (frames_fine p k ms g r fs c.tail.others) c.world e
 
         calls_struct : (o : Option Seen) (t : Ty) (x : Pointer) (values all : List Value) (q : Option Ty) → own_body p t (owner, m) ≡ o → Finds t → WellFormedPointer Bs x → AllFine values → Stays (call_struct p k o t x (named all q) values fs w)
-        calls_struct (Some s) t x values all q e f fx fv = plainly t s (Ptr x ∷ values) fs w f (own_is t s e) (fx, fv) c
+        calls_struct (Some s) t x values all q e f fx fv = plainly t s (Ptr x ∷ values) all q fs w f (own_is t s e) (fx, fv) c
         calls_struct None t x values all q e f fx fv = by_value (read p fs w x) refl
           where
             by_value : (o : Option Value) → read p fs w x ≡ o → Stays (if_there o w (λ v. call_boxed p k t v (named all q) values fs w))
@@ -201,7 +215,7 @@ module _ (p : Program) (k : Contracts) (ms : List MethodDesc) (g : AddedNumbers)
     module _ (fs : List Frame) (w : World) (objects : (v : Value) (t : Ty) → dynamic_type w v ≡ Some t → Finds t) (c : Rattle.valid_calls.specs.Members.MayMake p k ms g r fs w) where
       function_fine : (t : Ty) (all : List Value) (q : Option Ty) → Finds t → (o : Option Seen) → body_seen p t (owner, m) ≡ o → Fine (function_of p (named all q) o)
       function_fine t all q f None e = (old, na, nb)
-      function_fine t all q f (Some s) e = ((r.found t (owner, m) s old own e).0, (f s e).0, nb)
+      function_fine t all q f (Some s) e = ((r.found t (owner, m) s old own e).0, f s e, nb)
 
       pub function_stays : (values all : List Value) (q : Option Ty) → Stays (find_virtual_on p k (named all q) values fs w)
       function_stays [] all q = tt

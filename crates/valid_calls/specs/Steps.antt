@@ -13,7 +13,6 @@ use Rattle.cil_semantics.specs.Calls.{body_seen}
 use Rattle.cil_semantics.specs.Dispatch.{Seen}
 use Rattle.cil_semantics.specs.Lookups.{args_of}
 use Rattle.cil_semantics.specs.Tokens.{meaning_here, constrained_here}
-use Rattle.splice_facts.specs.Input.{result_count}
 use Rattle.splice_facts.specs.WellFormed.{NoneVoid}
 use Rattle.il_opcodes.specs.Opcodes.{class_of}
 use Rattle.il_opcodes.specs.declared.class.Class.TheVariants as class
@@ -28,13 +27,13 @@ use Rattle.splice_facts.specs.Related.{Rewritten, HasHeight}
 use Rattle.simulation_valid.specs.Keeping.{StaysValid}
 use Rattle.simulation_valid.specs.Steps.{RunsHere}
 
--- The body that is found for a type has no void among the arguments of its own, and a result just where the member that is named has one (ECMA-335, II.12.2).
-abbrev pub FindsGiving : Program → Seen → Ty → Type 0
-FindsGiving p s t = (x : Seen) → body_seen p t s ≡ Some x → NoneVoid p (args_of x.0) × (result_count p x.1 ≡ result_count p s.1)
+-- The body that is found for a type has no void among the arguments of its own (ECMA-335, II.23.2.14).
+abbrev pub FindsWhole : Program → Seen → Ty → Type 0
+FindsWhole p s t = (x : Seen) → body_seen p t s ≡ Some x → NoneVoid p (args_of x.0)
 
 -- so it is for the type of each value that is looked at, and for the one that constrained. names
 abbrev pub NamesFinding : Program → World → Option Ty → Option Meaning → Type 0
-NamesFinding p w q (Some (OfMethod owner m args)) = ((v : Value) (t : Ty) → dynamic_type w v ≡ Some t → FindsGiving p (owner, m) t) × ((t : Ty) → q ≡ Some t → FindsGiving p (owner, m) t)
+NamesFinding p w q (Some (OfMethod owner m args)) = ((v : Value) (t : Ty) → dynamic_type w v ≡ Some t → FindsWhole p (owner, m) t) × ((t : Ty) → q ≡ Some t → FindsWhole p (owner, m) t)
 NamesFinding p w q m = Unit {0}
 
 module _ (p : Program) (k : Contracts) (ms : List MethodDesc) (g : AddedNumbers) (r : Rewritten p k ms g) where
