@@ -192,7 +192,7 @@ module _ (b : Bounds) where
 
   objects_fine : (os : List Object) (i : ℕ) (o : Object) → WellFormedObjects b os → slice_get os i ≡ Some o → WellFormedCells b o.cells
   objects_fine [] i o fine e = absurd (cc e)
-  objects_fine (y ∷ os) zero o fine e = let q : y ≡ o = cc e in subst (λ (z : Object). WellFormedCells b z.cells) q fine.0
+  objects_fine (y ∷ os) zero o fine e = let q : y ≡ o = cc e in subst (λ (z : Object). WellFormedCells b z.cells) q fine.0.1
   objects_fine (y ∷ os) (suc i) o fine e = objects_fine os i o fine.1 e
 
   pub object_fine : (w : World) (j : ℕ) (o : Object) → WellFormedObjects b w.heap → object_at w j ≡ Some o → WellFormedCells b o.cells

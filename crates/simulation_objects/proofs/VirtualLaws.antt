@@ -12,7 +12,7 @@ use Rattle.cil_model.specs.declared.program.MethodDesc.{MethodDesc}
 use Rattle.cil_model.specs.NoContracts.{no_contracts}
 use Rattle.cil_semantics.specs.Words.{same_bool}
 use Rattle.cil_semantics.specs.Types.{same_ty}
-use Rattle.cil_semantics.specs.Lookups.{method_of}
+use Rattle.cil_semantics.specs.Lookups.{method_of, args_of}
 use Rattle.cil_semantics.specs.Dispatch.{Seen}
 use Rattle.cil_semantics.specs.declared.state.Cell.{Cell}
 use Rattle.cil_semantics.specs.Places.{storage, is_reference, new_cell}
@@ -32,7 +32,7 @@ use Rattle.splice_facts.proofs.ExceptionLaws.{more_failures, longer}
 use Rattle.splice_facts.specs.Bodies.{with_methods}
 use Rattle.splice_facts.specs.Grown.{beside}
 use Rattle.machine_laws.specs.Answers.{is_below}
-use Rattle.splice_facts.specs.WellFormed.{WellFormedPointer, WellFormedValue, WellFormedValues, WellFormedObjects}
+use Rattle.splice_facts.specs.WellFormed.{WellFormedPointer, WellFormedValue, WellFormedValues, WellFormedObjects, NoneVoid}
 use Rattle.splice_facts.specs.Related.{Rewritten, bounds}
 use Rattle.simulation_objects.specs.Calls as Sites
 use Rattle.simulation.proofs.ProgramLaws.{storage_same, new_cell_same, with_object_same}
@@ -161,16 +161,16 @@ module _ (p : Program) (k : Contracts) (ms : List MethodDesc) (g : AddedNumbers)
 
   -- ---- constrained.
 
-  one_more : (w : World) (t : Ty) (cell : Cell) → WellFormedObjects (bounds p k ms g r) w.heap → Fine cell.value → WellFormedObjects (bounds p k ms g r) (with_object p (record { ty = t; cells = cell ∷ [] }) w).heap
-  one_more w t cell fine fc = appended w.heap fine
+  one_more : (w : World) (t : Ty) (cell : Cell) → WellFormedObjects (bounds p k ms g r) w.heap → NoneVoid p (args_of t) → Fine cell.value → WellFormedObjects (bounds p k ms g r) (with_object p (record { ty = t; cells = cell ∷ [] }) w).heap
+  one_more w t cell fine na fc = appended w.heap fine
     where
       appended : (os : List Rattle.cil_semantics.specs.declared.state.Object.Object) → WellFormedObjects (bounds p k ms g r) os → WellFormedObjects (bounds p k ms g r) (os ++ record { ty = t; cells = cell ∷ [] } ∷ [])
-      appended [] f = ((fc, tt), tt)
+      appended [] f = ((na, (fc, tt)), tt)
       appended (o ∷ os) f = (f.0, appended os f.1)
 
-  calls_boxed : (t : Ty) (v : Value) (c : Call) (values : List Value) (fs fs' : List Frame) (w : World) (ss : List Statics) → Old c.owner c.method → Fine v → AllFine values → ((cell : Cell) → new_cell p t v ≡ Some cell → Fine cell.value) → Site fs fs' w ss
+  calls_boxed : (t : Ty) (v : Value) (c : Call) (values : List Value) (fs fs' : List Frame) (w : World) (ss : List Statics) → Old c.owner c.method → NoneVoid p (args_of t) → Fine v → AllFine values → ((cell : Cell) → new_cell p t v ≡ Some cell → Fine cell.value) → Site fs fs' w ss
       → To (big (length fs)) (call_boxed p k t v c values fs w) (call_boxed p' no_contracts t v c values fs' (beside ss w))
-  calls_boxed t v c values fs fs' w ss old ft fv boxed z =
+  calls_boxed t v c values fs fs' w ss old na ft fv boxed z =
       subst (λ o. To (big (length fs)) (call_boxed p k t v c values fs w) (if_there o (beside ss w) (λ cell. call_on p' no_contracts (record c { values = Obj (next_object w) ∷ values }) (Obj (next_object w)) values fs' (with_object p' (record { ty = t; cells = cell ∷ [] }) (beside ss w))))) (sym (new_cell_same p ms t v))
       (by_cell (new_cell p t v) boxed)
     where
@@ -180,7 +180,7 @@ module _ (p : Program) (k : Contracts) (ms : List MethodDesc) (g : AddedNumbers)
       by_cell (Some cell) b =
           subst (λ u. To (big (length fs)) (call_on p k (record c { values = Obj (next_object w) ∷ values }) (Obj (next_object w)) values fs (with_object p (record { ty = t; cells = cell ∷ [] }) w)) (call_on p' no_contracts (record c { values = Obj (next_object w) ∷ values }) (Obj (next_object w)) values fs' u)) (sym (with_object_same p ms (record { ty = t; cells = cell ∷ [] }) (beside ss w)))
           (calls_on (record c { values = Obj (next_object w) ∷ values }) (Obj (next_object w)) values fs fs' (with_object p (record { ty = t; cells = cell ∷ [] }) w) ss old (tt, fv) tt fv
-          (record { under = z.under; others = z.others; alike = record { statics = (z.alike).statics; depth = (z.alike).depth; bare = (z.alike).bare; failures = more_failures (length w.heap) (length (with_object p (record { ty = t; cells = cell ∷ [] }) w).heap) w.statics (longer w.heap (record { ty = t; cells = cell ∷ [] })) (z.alike).failures }; deep = z.deep; count = z.count; heap = one_more w t cell z.heap (b cell refl) }))
+          (record { under = z.under; others = z.others; alike = record { statics = (z.alike).statics; depth = (z.alike).depth; bare = (z.alike).bare; failures = more_failures (length w.heap) (length (with_object p (record { ty = t; cells = cell ∷ [] }) w).heap) w.statics (longer w.heap (record { ty = t; cells = cell ∷ [] })) (z.alike).failures }; deep = z.deep; count = z.count; heap = one_more w t cell z.heap na (b cell refl) }))
 
   own_old : (t : Ty) (s x : Seen) → Old s.0 s.1 → own_body p t s ≡ Some x → Old x.0 x.1
   own_old t s x old e = by_seen (body_seen p t s) refl e
@@ -201,20 +201,20 @@ module _ (p : Program) (k : Contracts) (ms : List MethodDesc) (g : AddedNumbers)
     old_here : Old c.owner c.method
     old_here = (a.old, a.owner)
 
-    calls_struct : (o : Option Seen) (t : Ty) (q : Pointer) (values : List Value) → ((s : Seen) → o ≡ Some s → Old s.0 s.1) → WellFormedPointer (bounds p k ms g r) q → AllFine values
+    calls_struct : (o : Option Seen) (t : Ty) (q : Pointer) (values : List Value) → NoneVoid p (args_of t) → ((s : Seen) → o ≡ Some s → Old s.0 s.1) → WellFormedPointer (bounds p k ms g r) q → AllFine values
         → To (big (length fs)) (call_struct p k o t q c values fs w) (call_struct p' no_contracts o t q c values fs' (beside ss w))
-    calls_struct (Some s) t q values there fq fv = seen s c (Ptr q ∷ values) (Ptr q ∷ values) fs fs' w ss refl (there s refl) (fq, fv) z
-    calls_struct None t q values there fq fv =
+    calls_struct (Some s) t q values na there fq fv = seen s c (Ptr q ∷ values) (Ptr q ∷ values) fs fs' w ss refl (there s refl) (fq, fv) z
+    calls_struct None t q values na there fq fv =
         subst (λ o. To (big (length fs)) (if_there (read p fs w q) w (λ v. call_boxed p k t v c values fs w)) (if_there o (beside ss w) (λ v. call_boxed p' no_contracts t v c values fs' (beside ss w)))) (sym (reads_here q fs fs' w ss fq z)) (by_value (read p fs w q) (λ v e. read_fine (bounds p k ms g r) p fs w q v a.frames a.world e))
       where
         by_value : (o : Option Value) → ((v : Value) → o ≡ Some v → Fine v) → To (big (length fs)) (if_there o w (λ v. call_boxed p k t v c values fs w)) (if_there o (beside ss w) (λ v. call_boxed p' no_contracts t v c values fs' (beside ss w)))
         by_value None f = Arriving.stuck_both p k ms g r _ w ss z.alike
-        by_value (Some v) f = calls_boxed t v c values fs fs' w ss old_here (f v refl) fv (λ cell e. boxed_fine (bounds p k ms g r) p t v cell (f v refl) e) z
+        by_value (Some v) f = calls_boxed t v c values fs fs' w ss old_here na (f v refl) fv (λ cell e. boxed_fine (bounds p k ms g r) p t v cell (f v refl) e) z
 
-    calls_pointed : (q : Pointer) (t : Ty) (values : List Value) → WellFormedPointer (bounds p k ms g r) q → AllFine values
+    calls_pointed : (q : Pointer) (t : Ty) (values : List Value) → NoneVoid p (args_of t) → WellFormedPointer (bounds p k ms g r) q → AllFine values
         → To (big (length fs)) (if is_reference (storage p t) then if_there (read p fs w q) w (λ v. call_on p k (record c { values = v ∷ values }) v values fs w) else call_struct p k (own_body p t (c.owner, c.method)) t q c values fs w)
         (if is_reference (storage p' t) then if_there (read p' fs' (beside ss w) q) (beside ss w) (λ v. call_on p' no_contracts (record c { values = v ∷ values }) v values fs' (beside ss w)) else call_struct p' no_contracts (own_body p' t (c.owner, c.method)) t q c values fs' (beside ss w))
-    calls_pointed q t values fq fv =
+    calls_pointed q t values na fq fv =
         subst (λ h. To (big (length fs)) (first (is_reference (storage p t))) (second (is_reference h) (read p' fs' (beside ss w) q) (own_body p' t (c.owner, c.method)))) (sym (storage_same p ms t))
         (subst (λ o. To (big (length fs)) (first (is_reference (storage p t))) (second (is_reference (storage p t)) o (own_body p' t (c.owner, c.method)))) (sym (reads_here q fs fs' w ss fq z))
         (subst (λ o. To (big (length fs)) (first (is_reference (storage p t))) (second (is_reference (storage p t)) (read p fs w q) o)) (sym (own_body_same p ms r.same_methods t (c.owner, c.method)))
@@ -232,26 +232,26 @@ module _ (p : Program) (k : Contracts) (ms : List MethodDesc) (g : AddedNumbers)
 
         by_test : (b : Bool) → To (big (length fs)) (first b) (second b (read p fs w q) (own_body p t (c.owner, c.method)))
         by_test true = by_value (read p fs w q) (λ v e. read_fine (bounds p k ms g r) p fs w q v a.frames a.world e)
-        by_test false = calls_struct (own_body p t (c.owner, c.method)) t q values (λ s e. own_old t (c.owner, c.method) s old_here e) fq fv
+        by_test false = calls_struct (own_body p t (c.owner, c.method)) t q values na (λ s e. own_old t (c.owner, c.method) s old_here e) fq fv
 
     pointer_fine : (v : Value) (q : Pointer) → Fine v → pointed (out-Value v) ≡ Some q → WellFormedPointer (bounds p k ms g r) q
     unfolding Rattle.cil_model.specs.declared.value.Value.out-Value denote.Hole.Carrier.out
     pointer_fine (val.Ptr q0) q fine e = let y : q0 ≡ q = cc e in subst (WellFormedPointer (bounds p k ms g r)) y fine
     pointer_fine _ q fine e = absurd (cc e)
 
-    calls_constrained : (o : Option Ty) (this : Value) (values : List Value) → Fine this → AllFine values → To (big (length fs)) (call_constrained p k o c this values fs w) (call_constrained p' no_contracts o c this values fs' (beside ss w))
-    calls_constrained None this values ft fv = calls_on c this values fs fs' w ss old_here a.values ft fv z
-    calls_constrained (Some t) this values ft fv = by_pointer (pointed (out-Value this)) (λ q e. pointer_fine this q ft e)
+    calls_constrained : (o : Option Ty) (this : Value) (values : List Value) → ((t : Ty) → o ≡ Some t → NoneVoid p (args_of t)) → Fine this → AllFine values → To (big (length fs)) (call_constrained p k o c this values fs w) (call_constrained p' no_contracts o c this values fs' (beside ss w))
+    calls_constrained None this values na ft fv = calls_on c this values fs fs' w ss old_here a.values ft fv z
+    calls_constrained (Some t) this values na ft fv = by_pointer (pointed (out-Value this)) (λ q e. pointer_fine this q ft e)
       where
         by_pointer : (o : Option Pointer) → ((q : Pointer) → o ≡ Some q → WellFormedPointer (bounds p k ms g r) q)
             → To (big (length fs)) (if_there o w (λ q. if is_reference (storage p t) then if_there (read p fs w q) w (λ v. call_on p k (record c { values = v ∷ values }) v values fs w) else call_struct p k (own_body p t (c.owner, c.method)) t q c values fs w))
             (if_there o (beside ss w) (λ q. if is_reference (storage p' t) then if_there (read p' fs' (beside ss w) q) (beside ss w) (λ v. call_on p' no_contracts (record c { values = v ∷ values }) v values fs' (beside ss w)) else call_struct p' no_contracts (own_body p' t (c.owner, c.method)) t q c values fs' (beside ss w)))
         by_pointer None f = Arriving.stuck_both p k ms g r _ w ss z.alike
-        by_pointer (Some q) f = calls_pointed q t values (f q refl) fv
+        by_pointer (Some q) f = calls_pointed q t values (na t refl) (f q refl) fv
 
     calls_values : (vs : List Value) → AllFine vs → To (big (length fs)) (call_virtual_on p k c vs fs w) (call_virtual_on p' no_contracts c vs fs' (beside ss w))
     calls_values [] f = Arriving.stuck_both p k ms g r _ w ss z.alike
-    calls_values (this ∷ values) f = calls_constrained c.constrained this values f.0 f.1
+    calls_values (this ∷ values) f = calls_constrained c.constrained this values a.constrained f.0 f.1
 
     pub calls_virtual : To (big (length fs)) (call_virtual p k c fs w) (call_virtual p' no_contracts c fs' (beside ss w))
     unfolding call_virtual

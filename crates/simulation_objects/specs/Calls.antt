@@ -7,6 +7,7 @@ use Rattle.cil_model.specs.declared.contract.Contracts.{Contracts}
 use Rattle.cil_model.specs.declared.program.Program.{Program}
 use Rattle.cil_model.specs.declared.program.MethodDesc.{MethodDesc}
 use Rattle.cil_model.specs.NoContracts.{no_contracts}
+use Rattle.cil_semantics.specs.Lookups.{args_of}
 use Rattle.cil_semantics.specs.declared.state.World.{World}
 use Rattle.cil_semantics.specs.declared.state.Statics.{Statics}
 use Rattle.cil_semantics.specs.declared.state.Frame.{Frame}
@@ -22,7 +23,7 @@ use Rattle.cil_semantics.specs.Dispatch.{Seen}
 use Rattle.splice_facts.specs.Bodies.{with_methods}
 use Rattle.splice_facts.specs.Grown.{beside}
 use Rattle.machine_laws.specs.Answers.{is_below}
-use Rattle.splice_facts.specs.WellFormed.{Bounds, WellFormedLocal, WellFormedValues, WellFormedObjects, WellFormedWorld}
+use Rattle.splice_facts.specs.WellFormed.{Bounds, WellFormedLocal, WellFormedValues, WellFormedObjects, WellFormedWorld, NoneVoid}
 use Rattle.splice_facts.specs.Spliced.{IsPlainAt, cost}
 use Rattle.splice_facts.specs.Layout.{Onward, fetch}
 use Rattle.splice_facts.specs.Acting.{WellFormedAct}
@@ -65,6 +66,7 @@ module _ (p : Program) (k : Contracts) (ms : List MethodDesc) (g : AddedNumbers)
     pub values : WellFormedValues (bounds p k ms g r) c.values
     pub frames : WellFormedFrames (bounds p k ms g r) fs
     pub world : WellFormedWorld (bounds p k ms g r) w
+    pub constrained : (t : Ty) → c.constrained ≡ Some t → NoneVoid p (args_of t)
 
   -- A virtual call runs the same body in both runs: by the type of the object, of a delegate its function, and under constrained. by the type that is named (ECMA-335, III.4.2 and III.2.1).
   abbrev pub VirtualCallsAlike : Type 0

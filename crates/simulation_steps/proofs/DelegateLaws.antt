@@ -142,7 +142,7 @@ module _ (p : Program) (k : Contracts) (ms : List MethodDesc) (g : AddedNumbers)
 
   cells_there : (os : List Object) (i : ℕ) (o : Object) → WellFormedObjects (bounds p k ms g r) os → slice_get os i ≡ Some o → WellFormedCells (bounds p k ms g r) o.cells
   cells_there [] i o fine e = absurd (cc e)
-  cells_there (x ∷ os) zero o fine e = let q : x ≡ o = cc e in subst (λ (y : Object). WellFormedCells (bounds p k ms g r) y.cells) q fine.0
+  cells_there (x ∷ os) zero o fine e = let q : x ≡ o = cc e in subst (λ (y : Object). WellFormedCells (bounds p k ms g r) y.cells) q fine.0.1
   cells_there (x ∷ os) (suc i) o fine e = cells_there os i o fine.1 e
 
   object_there : (w : World) (x : ℕ) (o : Object) → WellFormedObjects (bounds p k ms g r) w.heap → object_at w x ≡ Some o → WellFormedCells (bounds p k ms g r) o.cells

@@ -11,6 +11,7 @@ use Rattle.cil_model.specs.declared.program.Program.{Program}
 use Rattle.cil_model.specs.declared.program.MethodDesc.{MethodDesc}
 use Rattle.cil_model.specs.declared.program.Meaning.{Meaning}
 use Rattle.il_opcodes.specs.declared.class.Storage.{Storage}
+use Rattle.simulation_valid.proofs.WorldLaws.{array_typed}
 use Rattle.cil_semantics.specs.Places.{storage, is_reference, stored, stored_in, default_cell}
 use Rattle.cil_semantics.specs.State.{object_at, next_object}
 use Rattle.cil_semantics.specs.declared.state.Object.{Object}
@@ -43,7 +44,7 @@ module _ (p : Program) (k : Contracts) (ms : List MethodDesc) (g : AddedNumbers)
   all_default (suc n) t = (default_fine Bs p 1001 t, all_default n t)
 
   made_fine : (t : Ty) (z : ℤ) (w : World) (rest : List Value) → WellFormedValues Bs rest → Fine (made_array p t z w f.local rest)
-  made_fine t (pos n) w rest h = ((all_default n t, tt), restacked p k ms g r f (Obj (next_object w) ∷ rest) fs places (tt, h), refl)
+  made_fine t (pos n) w rest h = (((array_typed Bs t, all_default n t), tt), restacked p k ms g r f (Obj (next_object w) ∷ rest) fs places (tt, h), refl)
   made_fine t (negsuc n) w rest h = tt
 
   pub arrays_begin : (m : Option Meaning) (s : List Value) (w : World) → WellFormedValues Bs s → Fine (on_type m (λ t. on_top s (λ n rest. if_some (index_number (numeric n)) (λ z. made_array p t z w f.local rest))))

@@ -25,7 +25,7 @@ use Rattle.splice_facts.specs.Input.{top_of}
 use Rattle.splice_facts.specs.Related.{Rewritten, bounds}
 use Rattle.simulation_steps.specs.Outside.{WellFormedRefs, values_of}
 use Rattle.simulation_objects.proofs.RefLaws.{refs_there}
-use Rattle.simulation_valid.proofs.WorldLaws.{object_added}
+use Rattle.simulation_valid.proofs.WorldLaws.{object_added, class_typed}
 use Rattle.simulation_valid.proofs.ChangeLaws.{all_unchanged, all_changed_twice, writes_keep, kept_fine}
 use Rattle.simulation_valid.proofs.FitsLaws.{fits_fine, fits_no_void}
 use Rattle.simulation_valid.specs.Changes.{Written}
@@ -62,7 +62,7 @@ module _ (p : Program) (k : Contracts) (ms : List MethodDesc) (g : AddedNumbers)
   throws_out m name fs gs w w2 other a o = by_test (is_sub p (class_named name) (class_named (codes "System.Exception")))
     where
       by_test : (c : Bool) → ValidAnswer p k ms g r m fs w (if c then Threw (next_object w2) gs (with_object p (record { ty = class_named name; cells = [] }) w2) else other)
-      by_test true = record { frames = a.frames; world = object_added Bs p (record { ty = class_named name; cells = [] }) w2 tt a.world; depth = a.depth }
+      by_test true = record { frames = a.frames; world = object_added Bs p (record { ty = class_named name; cells = [] }) w2 (class_typed Bs name, tt) a.world; depth = a.depth }
       by_test false = o
 
   -- what a reply comes to

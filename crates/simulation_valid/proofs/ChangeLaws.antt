@@ -29,7 +29,7 @@ use Rattle.cil_semantics.specs.Unwind.{plan_at, set_statics, find_statics}
 use Rattle.cil_semantics.specs.Frames.{in_frame, set_in, set_args, set_locals, set_object, set_static, static_cells, static_path, captured_tys, write}
 use Rattle.cil_semantics.specs.Checks.{AddedNumbers}
 use Rattle.machine_laws.specs.Answers.{is_below}
-use Rattle.splice_facts.specs.WellFormed.{Bounds, WellFormedValue, WellFormedValues, WellFormedCells, WellFormedLocal, WellFormedObjects, WellFormedWorld, WellFormedPointer}
+use Rattle.splice_facts.specs.WellFormed.{Bounds, WellFormedValue, WellFormedValues, WellFormedCells, WellFormedLocal, WellFormedObjects, WellFormedWorld, WellFormedPointer, WellFormedObject}
 use Rattle.splice_facts.specs.Related.{Rewritten, ValidFrame, ValidFrames, HeightsBelow, HasResult, bounds, in_group, count_groups}
 use Rattle.simulation_objects.proofs.StoredLaws.{boxed_fine, struct_fine, fields_fine, get_fine, cell_there, object_fine, static_cells_fine}
 use Rattle.simulation_valid.specs.Changes.{LocalChange, ChangedFrame, ChangedFrames, Written}
@@ -204,18 +204,23 @@ module _ (b : Bounds) (p : Program) where
   by_frames fs w x None h q = absurd (cc q)
   by_frames fs w x (Some gs) h q = let z : (gs, w) ≡ x = cc q in subst (Written b p fs w) z (record { frames = h gs refl; world = λ y. y; depth = refl })
 
-  objects_set : (os : List Object) (i : ℕ) (o : Object) → WellFormedObjects b os → WellFormedCells b o.cells → WellFormedObjects b (slice_set os i o)
+  objects_set : (os : List Object) (i : ℕ) (o : Object) → WellFormedObjects b os → WellFormedObject b o → WellFormedObjects b (slice_set os i o)
   objects_set [] i o h c = tt
   objects_set (x ∷ xs) zero o h c = (c, h.1)
   objects_set (x ∷ xs) (suc i) o h c = (h.0, objects_set xs i o h.1 c)
 
+  object_there : (os : List Object) (i : ℕ) (o : Object) → WellFormedObjects b os → slice_get os i ≡ Some o → WellFormedObject b o
+  object_there [] i o h e = absurd (cc e)
+  object_there (x ∷ xs) zero o h e = let q : x ≡ o = cc e in subst (WellFormedObject b) q h.0
+  object_there (x ∷ xs) (suc i) o h e = object_there xs i o h.1 e
+
   object_set : (w : World) (j : ℕ) (cs : List Cell) → WellFormedCells b cs → WellFormedWorld b w → WellFormedWorld b (set_object w j cs)
   object_set w zero cs c h = h
-  object_set w (suc i) cs c h = record { heap = by_object (slice_get w.heap i); statics = h.statics }
+  object_set w (suc i) cs c h = record { heap = by_object (slice_get w.heap i) refl; statics = h.statics }
     where
-      by_object : (o : Option Object) → WellFormedObjects b (maybe w.heap (λ (x : Object). slice_set w.heap i (record x { cells = cs })) o)
-      by_object None = h.heap
-      by_object (Some x) = objects_set w.heap i (record x { cells = cs }) h.heap c
+      by_object : (o : Option Object) → slice_get w.heap i ≡ o → WellFormedObjects b (maybe w.heap (λ (x : Object). slice_set w.heap i (record x { cells = cs })) o)
+      by_object None e = h.heap
+      by_object (Some x) e = objects_set w.heap i (record x { cells = cs }) h.heap ((object_there w.heap i x h.heap e).0, c)
 
   same_depth : (w : World) (j : ℕ) (cs : List Cell) → (set_object w j cs).depth ≡ w.depth
   same_depth w zero cs = refl

@@ -24,7 +24,7 @@ use Rattle.splice_facts.proofs.AskFrameLaws.{event_plain, trigger_plain}
 use Rattle.simulation_calls.proofs.CheckLaws.{KeepsHeap, ask_keeps}
 use Rattle.simulation_objects.proofs.StoredLaws.{same_reference}
 use Rattle.simulation_valid.specs.Keeping.{StaysValid}
-use Rattle.simulation_valid.proofs.WorldLaws.{object_added}
+use Rattle.simulation_valid.proofs.WorldLaws.{object_added, known_typed}
 use Rattle.simulation_valid.proofs.AskValidLaws.{asks_valid}
 use Rattle.simulation_valid.specs.Steps.{ValidAnswer}
 
@@ -75,7 +75,7 @@ module _ (p : Program) (k : Contracts) (ms : List MethodDesc) (g : AddedNumbers)
     void_there = refl
 
     throws_or_triggers : (text : Value) (w : World) → WellFormedValue Bs text → WellFormedWorld Bs w → w.depth ≡ d → w.heap ≡ heap → (b : Bool) → Stays (if b then s.throws (with_object p (contract_failure g x) w) (next_object w) else triggered p g k.settings.throwing x s (ask p (trigger_member g) (number_value x ∷ text ∷ x.user ∷ label_text x ∷ Null ∷ []) fs w))
-    throws_or_triggers text w ft ok e h true = a.throws_so (with_object p (contract_failure g x) w) (next_object w) (object_added Bs p (contract_failure g x) w (tt, (user, (tt, tt))) ok) e
+    throws_or_triggers text w ft ok e h true = a.throws_so (with_object p (contract_failure g x) w) (next_object w) (object_added Bs p (contract_failure g x) w (known_typed Bs g.exception, (tt, (user, (tt, tt)))) ok) e
     throws_or_triggers text w ft ok e h false =
         triggers_valid (trigger_member g) w (ask p (trigger_member g) (number_value x ∷ text ∷ x.user ∷ label_text x ∷ Null ∷ []) fs w) e
         (subst (λ z. KeepsHeap z (ask p (trigger_member g) (number_value x ∷ text ∷ x.user ∷ label_text x ∷ Null ∷ []) fs w)) h (ask_keeps p (trigger_member g) (number_value x ∷ text ∷ x.user ∷ label_text x ∷ Null ∷ []) fs w (trigger_plain g)))

@@ -91,7 +91,7 @@ module _ (p : Program) (k : Contracts) (ms : List MethodDesc) (g : AddedNumbers)
     classes_fine class.CastClass low outer may = object.casts_fine p k ms g r f fs places named f.local.stack w places.fine.stack
     classes_fine class.IsInstance low outer may = object.tests_fine p k ms g r f fs places named f.local.stack w places.fine.stack
     classes_fine class.Unbox low outer may = object.unboxes_fine p k ms g r f fs places named f.local.stack w world.heap places.fine.stack
-    classes_fine class.Box low outer may = object.boxes_fine p k ms g r f fs places named f.local.stack w places.fine.stack
+    classes_fine class.Box low outer may = object.boxes_fine p k ms g r f fs places named f.local.stack w own places.fine.stack
     classes_fine class.UnboxAny low outer may = object.unboxes_any_fine p k ms g r f fs places named f.local.stack w world.heap places.fine.stack
     classes_fine class.Throw low outer may = pointer.throws_fine p k ms g r f fs places f.local.stack
     classes_fine class.Rethrow low outer may = tt

@@ -10,7 +10,7 @@ use Rattle.cil_model.specs.declared.contract.Contracts.{Contracts}
 use Rattle.cil_model.specs.declared.program.Program.{Program}
 use Rattle.cil_model.specs.declared.program.MethodDesc.{MethodDesc}
 use Rattle.cil_model.specs.declared.program.Meaning.{Meaning}
-use Rattle.cil_model.specs.declared.program.Meaning.TheVariants.{OfMethod, OfText}
+use Rattle.cil_model.specs.declared.program.Meaning.TheVariants.{OfMethod, OfText, OfType}
 use Rattle.cil_semantics.specs.Lookups.{args_of, is_sub}
 use Rattle.cil_semantics.specs.Places.{storage, is_reference, stored_in, new_cell, default_value}
 use Rattle.cil_semantics.specs.Types.{same_ty}
@@ -22,7 +22,7 @@ use Rattle.cil_semantics.specs.declared.state.Frame.{Frame}
 use Rattle.cil_semantics.specs.Acts.{Act, Load, Store, Copy, on_top, on_two, if_some, goes_with, goes_with_new, invalid_cast, on_pointer, text_in, handle_of, size_at, on_type, is_null, dynamic_type, cast, unboxed, unbox, box}
 use Rattle.cil_semantics.specs.Instructions.{push_function}
 use Rattle.cil_semantics.specs.Checks.{AddedNumbers}
-use Rattle.splice_facts.specs.WellFormed.{Bounds, WellFormedValue, WellFormedValues, WellFormedObjects}
+use Rattle.splice_facts.specs.WellFormed.{Bounds, WellFormedValue, WellFormedValues, WellFormedObjects, NoneVoid}
 use Rattle.splice_facts.specs.Related.{Rewritten, bounds}
 use Rattle.simulation_objects.proofs.StoredLaws.{boxed_fine, stored_fine, default_fine, object_fine, cell_there}
 use Rattle.simulation_valid.specs.Keeping.{ValidPlaces}
@@ -121,15 +121,21 @@ module _ (p : Program) (k : Contracts) (ms : List MethodDesc) (g : AddedNumbers)
       (λ v rest fv fr. operand.either_fine p k ms g r f fs (is_reference (storage p t)) Rattle.cil_semantics.specs.Acts.Stuck (unboxed w t (out-Value v) (λ j c. goes_with f.local (Ptr (Inside j (0 ∷ []))) rest)) tt
       (unboxed_fine w t (out-Value v) (λ j c. goes_with f.local (Ptr (Inside j (0 ∷ []))) rest) heap (λ j c fc. pushes (Ptr (Inside j (0 ∷ []))) rest tt fr))))
 
-  boxed_act : (t : Ty) (v : Value) (rest : List Value) (w : World) → WellFormedValue Bs v → WellFormedValues Bs rest → Fine (box p t v rest w f.local)
-  boxed_act t v rest w fv fr =
+  boxed_act : (t : Ty) (v : Value) (rest : List Value) (w : World) → NoneVoid p (args_of t) → WellFormedValue Bs v → WellFormedValues Bs rest → Fine (box p t v rest w f.local)
+  boxed_act t v rest w na fv fr =
       operand.either_fine p k ms g r f fs (is_reference (storage p t)) (goes_with f.local v rest) (if_some (new_cell p t v) (λ c. goes_with_new w (record { ty = t; cells = c ∷ [] }) f.local rest)) (pushes v rest fv fr)
       (operand.some_fine p k ms g r f fs (new_cell p t v) (λ c. goes_with_new w (record { ty = t; cells = c ∷ [] }) f.local rest)
-      (λ c e. (((boxed_fine Bs p t v c fv e, tt), tt), restacked p k ms g r f (value.Obj (Rattle.cil_semantics.specs.State.next_object w) ∷ rest) fs places (tt, fr), refl)))
+      (λ c e. (((na, (boxed_fine Bs p t v c fv e, tt)), tt), restacked p k ms g r f (value.Obj (Rattle.cil_semantics.specs.State.next_object w) ∷ rest) fs places (tt, fr), refl)))
 
-  pub boxes_fine : (m : Option Meaning) (s : List Value) (w : World) → WellFormedValues Bs s → Fine (on_type m (λ t. on_top s (λ v rest. box p t v rest w f.local)))
-  boxes_fine m s w h =
-      operand.type_fine p k ms g r f fs m (λ t. on_top s (λ v rest. box p t v rest w f.local)) (λ t. operand.top_fine p k ms g r f fs s (λ v rest. box p t v rest w f.local) h (λ v rest fv fr. boxed_act t v rest w fv fr))
+  -- a type that a token names has no void among its arguments
+  typed_fine : (m : Option Meaning) (go : Ty → Act) → NamesInput p r.types r.methods m → ((t : Ty) → NoneVoid p (args_of t) → Fine (go t)) → Fine (on_type m go)
+  typed_fine None go own h = tt
+  typed_fine (Some (OfType t)) go own h = h t own
+  typed_fine (Some _) go own h = tt
+
+  pub boxes_fine : (m : Option Meaning) (s : List Value) (w : World) → NamesInput p r.types r.methods m → WellFormedValues Bs s → Fine (on_type m (λ t. on_top s (λ v rest. box p t v rest w f.local)))
+  boxes_fine m s w own h =
+      typed_fine m (λ t. on_top s (λ v rest. box p t v rest w f.local)) own (λ t na. operand.top_fine p k ms g r f fs s (λ v rest. box p t v rest w f.local) h (λ v rest fv fr. boxed_act t v rest w na fv fr))
 
   pub unboxes_any_fine : (m : Option Meaning) (s : List Value) (w : World) → WellFormedObjects Bs w.heap → WellFormedValues Bs s
       → Fine (on_type m (λ t. on_top s (λ v rest. if is_reference (storage p t) then cast p t v (goes_with f.local v rest) invalid_cast w else unboxed w t (out-Value v) (λ j (c : Cell). goes_with f.local c.value rest))))

@@ -30,7 +30,7 @@ use Rattle.simulation_steps.proofs.PerformLaws.{made_depth}
 use Rattle.simulation_valid.proofs.HeightLaws.{but_none}
 use Rattle.simulation_valid.specs.Keeping.{NoneVoid, StaysValid}
 use Rattle.simulation_valid.specs.Steps.{Topmost, Leaves, RunsHere, MayEnd, ValidAct}
-use Rattle.simulation_valid.proofs.WorldLaws.{object_added}
+use Rattle.simulation_valid.proofs.WorldLaws.{object_added, class_typed}
 use Rattle.simulation_valid.proofs.UnwindValidLaws.{places_of, same_place}
 use Rattle.simulation_valid.proofs.PushValidLaws.{arrives_from}
 use Rattle.simulation_valid.proofs.EnterValidLaws.{initializer_begins}
@@ -56,7 +56,7 @@ module _ (p : Program) (k : Contracts) (ms : List MethodDesc) (g : AddedNumbers)
 
   raises_valid : (name : Name) (f : Frame) (fs : List Frame) (w : World) → RunsHere p k ms g r f fs w → Stays (raise p k name (f ∷ fs) w)
   raises_valid name f fs w a =
-      throws_here p k ms g r f f.local fs w (with_object p (record { ty = class_named name; cells = [] }) w) (next_object w) a (places_of p k ms g r f fs a.top.frame a.top.as_named) refl (object_added Bs p (record { ty = class_named name; cells = [] }) w tt a.top.below.world) refl
+      throws_here p k ms g r f f.local fs w (with_object p (record { ty = class_named name; cells = [] }) w) (next_object w) a (places_of p k ms g r f fs a.top.frame a.top.as_named) refl (object_added Bs p (record { ty = class_named name; cells = [] }) w (class_typed Bs name, tt) a.top.below.world) refl
 
   ends_handler : (hs : List Handling) (f : Frame) (fs : List Frame) (w : World) → f.handling ≡ hs → RunsHere p k ms g r f fs w → MayEnd p k ms g r f hs → Stays (resume p k hs f fs w)
   ends_handler [] f fs w e a m = tt

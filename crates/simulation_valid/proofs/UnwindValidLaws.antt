@@ -1,6 +1,6 @@
 -- An exception goes down the frames, and what it comes to is valid.
 use Rattle.std.proofs.Common.{◌≡◌, ℕ, suc, ◌+◌, ◌<◌, ◌≤◌, Bool, true, false, List, [], ◌∷◌, length, Option, Some, None, refl, sym, ap, ◌∙◌, subst, arith}
-use Rattle.std.specs.Prelude.{if◌then◌else◌, IsTrue}
+use Rattle.std.specs.Prelude.{if◌then◌else◌, IsTrue, codes}
 use Rattle.cil_model.specs.declared.ty.Ty.{Ty}
 use Rattle.cil_model.specs.declared.value.Value.{Value, Obj}
 use Rattle.cil_model.specs.declared.contract.Contracts.{Contracts}
@@ -33,7 +33,7 @@ use Rattle.simulation_valid.proofs.FrameLaws as Standing
 use Rattle.simulation_valid.proofs.FrameLaws.{stands_valid}
 use Rattle.simulation_valid.proofs.ArriveValidLaws.{below_same, piece_begins, rest_begins, group_begins}
 use Rattle.simulation_valid.proofs.GroupLaws.{clauses_alone, drops_at_entry, FoundHeight, HandlerAt, search_heights}
-use Rattle.simulation_valid.proofs.WorldLaws.{object_added, failed_kept}
+use Rattle.simulation_valid.proofs.WorldLaws.{object_added, failed_kept, class_typed}
 
 out_of_groups : (at : ProgramPoint) (t : ℕ) → is_group at ≡ false → in_group (moved_to t at) ≡ 0
 out_of_groups (LeadIn q) t e = refl
@@ -83,7 +83,7 @@ module _ (p : Program) (k : Contracts) (ms : List MethodDesc) (g : AddedNumbers)
     where
       by_type : (o : Option Ty) → ((t : Ty) → o ≡ Some t → IsTrue (is_below r.types t)) → Stays (ends_frame p o h.continuation w x (λ s v y. unwind p k s fs v y))
       by_type None h1 = down w x ok count deep
-      by_type (Some t) h1 = down (with_failed t (next_object w) (with_object p initialization_failed w)) (next_object w) (failed_kept (bounds p k ms g r) t (next_object w) (with_object p initialization_failed w) (h1 t refl) (object_added (bounds p k ms g r) p initialization_failed w tt ok)) count deep
+      by_type (Some t) h1 = down (with_failed t (next_object w) (with_object p initialization_failed w)) (next_object w) (failed_kept (bounds p k ms g r) t (next_object w) (with_object p initialization_failed w) (h1 t refl) (object_added (bounds p k ms g r) p initialization_failed w (class_typed (bounds p k ms g r) (codes "System.TypeInitializationException"), tt) ok)) count deep
 
   -- what is known of a frame in which an exception is thrown
   pub record Throwing (h : Frame) (at : ProgramPoint) (hs : List Handling) (q : ℕ) (fs : List Frame) (w : World) : Type 0 where

@@ -1,7 +1,8 @@
 -- Worlds stay well formed: with one more object, and with other statics.
 use Rattle.std.proofs.Common.{◌≡◌, ℕ, Bool, true, false, List, [], ◌∷◌, ◌++◌, Option, Some, None, refl, subst}
 use Rattle.std.specs.Prelude.{if◌then◌else◌, IsTrue}
-use Rattle.cil_model.specs.declared.ty.Ty.{Ty}
+use Rattle.cil_model.specs.declared.ty.Ty.{Ty, Known}
+use Rattle.cil_model.specs.declared.ty.Ty.TheVariants as ty
 use Rattle.cil_model.specs.declared.program.Program.{Program}
 use Rattle.cil_semantics.specs.Words.{maybe}
 use Rattle.cil_semantics.specs.Types.{same_ty}
@@ -12,14 +13,30 @@ use Rattle.cil_semantics.specs.declared.state.World.{World}
 use Rattle.cil_semantics.specs.State.{with_object}
 use Rattle.cil_semantics.specs.Unwind.{set_statics, find_statics, with_failed}
 use Rattle.machine_laws.specs.Answers.{is_below}
-use Rattle.splice_facts.specs.WellFormed.{Bounds, WellFormedCells, WellFormedObjects, WellFormedStatics, WellFormedWorld}
+use Rattle.cil_semantics.specs.Core.{Name, class_named}
+use Rattle.cil_semantics.specs.Lookups.{args_of}
+use Rattle.splice_facts.specs.WellFormed.{Bounds, NoneVoid, WellFormedCells, WellFormedObject, WellFormedObjects, WellFormedStatics, WellFormedWorld}
 
 module _ (b : Bounds) where
-  pub one_more_object : (os : List Object) (o : Object) → WellFormedObjects b os → WellFormedCells b o.cells → WellFormedObjects b (os ++ o ∷ [])
+  -- a core class has no arguments
+  pub class_typed : (name : Name) → NoneVoid b.program (args_of (class_named name))
+  unfolding Rattle.cil_model.specs.declared.ty.Ty.out-Ty denote.Hole.Carrier.out
+  class_typed name = tt
+
+  pub known_typed : (k : ℕ) → NoneVoid b.program (args_of (Known k))
+  unfolding Rattle.cil_model.specs.declared.ty.Ty.out-Ty denote.Hole.Carrier.out
+  known_typed k = tt
+
+  -- nor has an array
+  pub array_typed : (t : Ty) → NoneVoid b.program (args_of (ty.Array t))
+  unfolding Rattle.cil_model.specs.declared.ty.Ty.out-Ty denote.Hole.Carrier.out
+  array_typed t = tt
+
+  pub one_more_object : (os : List Object) (o : Object) → WellFormedObjects b os → WellFormedObject b o → WellFormedObjects b (os ++ o ∷ [])
   one_more_object [] o h c = (c, tt)
   one_more_object (x ∷ xs) o h c = (h.0, one_more_object xs o h.1 c)
 
-  pub object_added : (p : Program) (o : Object) (w : World) → WellFormedCells b o.cells → WellFormedWorld b w → WellFormedWorld b (with_object p o w)
+  pub object_added : (p : Program) (o : Object) (w : World) → WellFormedObject b o → WellFormedWorld b w → WellFormedWorld b (with_object p o w)
   object_added p o w c h = record { heap = one_more_object w.heap o h.heap c; statics = h.statics }
 
   pub statics_set : (test : Ty → Bool) (s : Statics) (ss : List Statics) → WellFormedStatics b ss → IsTrue (is_below b.types s.owner) → WellFormedCells b s.cells → WellFormedStatics b (set_statics test s ss)

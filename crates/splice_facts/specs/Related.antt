@@ -9,9 +9,9 @@ use Rattle.cil_model.specs.declared.contract.Group.{Group}
 use Rattle.cil_model.specs.declared.contract.Group.TheVariants as group
 use Rattle.cil_model.specs.NoContracts.{no_contracts}
 use Rattle.cil_semantics.specs.declared.state.Cell.{Cell}
-use Rattle.cil_semantics.specs.Tokens.{Here, ref_type, local_tys, meaning_here}
+use Rattle.cil_semantics.specs.Tokens.{Here, ref_type, local_tys, meaning_here, constrained_here}
 use Rattle.cil_model.specs.declared.program.Meaning.{Meaning}
-use Rattle.cil_model.specs.declared.program.Meaning.TheVariants.{OfField, OfMethod}
+use Rattle.cil_model.specs.declared.program.Meaning.TheVariants.{OfType, OfField, OfMethod}
 use Rattle.cil_semantics.specs.declared.state.World.{World}
 use Rattle.cil_semantics.specs.declared.state.Statics.{Statics}
 use Rattle.cil_semantics.specs.declared.state.ProgramPoint.{ProgramPoint}
@@ -26,7 +26,7 @@ use Rattle.cil_semantics.specs.declared.state.Continuation.TheVariants.{Push, Pu
 use Rattle.cil_semantics.specs.Contracted.{Piece, Plan, effective_of}
 use Rattle.cil_semantics.specs.Unwind.{body_of, plan_at, piece_at, here_of, moved_to, next_place, unwind}
 use Rattle.cil_semantics.specs.Core.{object_ty}
-use Rattle.cil_semantics.specs.Lookups.{method_of, in_set, is_sub, args_of}
+use Rattle.cil_semantics.specs.Lookups.{method_of, in_set, is_sub, args_of, base_of}
 use Rattle.cil_semantics.specs.Places.{storage, is_reference}
 use Rattle.cil_semantics.specs.Dispatch.{Seen, methods_of}
 use Rattle.cil_semantics.specs.Calls.{body_seen}
@@ -65,6 +65,7 @@ pub record IsOwnClass (p : Program) (types methods : ℕ) (t : Ty) : Type 0 wher
 
 -- A token of the input's code names what is of the input, with no void among type arguments (ECMA-335, II.23.2.14).
 abbrev pub NamesInput : Program → (types methods : ℕ) → Option Meaning → Type 0
+NamesInput p types methods (Some (OfType t)) = NoneVoid p (args_of t)
 NamesInput p types methods (Some (OfField owner field)) = IsTrue (is_below types owner) × NoneVoid p (args_of owner)
 NamesInput p types methods (Some (OfMethod owner method args)) = (method < methods) × IsTrue (is_below types owner) × NoneVoid p (args_of owner) × NoneVoid p args
 NamesInput p types methods m = Unit {0}
@@ -92,6 +93,10 @@ pub record Rewritten (p : Program) (k : Contracts) (ms : List MethodDesc) (g : A
       → option_and_then (ref_type p here) x.clause.exception ≡ Some t → in_set (out-Ty t) ≡ Some d → IsOwnClass p types methods t × (NoneVoid p here.type_args → NoneVoid p here.method_args → NoneVoid p (args_of t))
   -- what a token names for type arguments of which none is void
   pub names : (m : ℕ) (at : ProgramPoint) (i : Instr) (here : Here) → m < methods → here.method ≡ m → NoneVoid p here.type_args → NoneVoid p here.method_args → IsHere (plan_at k p m) at → fetch p k g (plan_at k p m) m at ≡ Some i → NamesInput p types methods (meaning_here p here i)
+  -- and what `constrained.` names
+  pub constrains : (m : ℕ) (at : ProgramPoint) (i : Instr) (here : Here) (t : Ty) → m < methods → here.method ≡ m → NoneVoid p here.type_args → NoneVoid p here.method_args → IsHere (plan_at k p m) at → fetch p k g (plan_at k p m) m at ≡ Some i → constrained_here p here i ≡ Some t → NoneVoid p (args_of t)
+  -- the base of a type names no void among its arguments
+  pub bases : (t u : Ty) → NoneVoid p (args_of t) → base_of p t ≡ Some u → NoneVoid p (args_of u)
   -- a call that a token names of a core member describes it with the result that it has (ECMA-335, Partition IV)
   pub gives : (m : ℕ) (at : ProgramPoint) (i : Instr) (here : Here) → m < methods → here.method ≡ m → IsHere (plan_at k p m) at → fetch p k g (plan_at k p m) m at ≡ Some i → CallsMember (class_of i.op) → NamesGiving p (meaning_here p here i)
   -- a method of the input belongs to a type of the input

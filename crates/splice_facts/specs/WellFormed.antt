@@ -1,7 +1,8 @@
--- What a run of the input can have in its places: no pointer to a local that the method lacks, no static of what was appended, no method that was appended, and no function with void among its type arguments.
+-- What a run of the input can have in its places: no pointer to a local that the method lacks, no static of what was appended, no method that was appended, and no function or object with void among its type arguments.
 use Rattle.std.specs.Prelude.{◌≡◌, ℕ, ◌<◌, false, List, [], ◌∷◌, Option, Some, None, IsTrue}
 use Rattle.cil_model.specs.declared.ty.Ty.{Ty}
 use Rattle.cil_model.specs.declared.program.Program.{Program}
+use Rattle.cil_semantics.specs.Lookups.{args_of}
 use Rattle.cil_semantics.specs.Places.{storage, is_void}
 use Rattle.cil_model.specs.declared.value.Value.{Value, Row_of-Value, end_of-Value, more_of-Value}
 use Rattle.cil_model.specs.declared.value.Value as val
@@ -73,9 +74,12 @@ module _ (b : Bounds) where
     pub result : WellFormedIf l.result
     pub stack : WellFormedValues l.stack
 
+  abbrev pub WellFormedObject : Object → Type 0
+  WellFormedObject o = NoneVoid b.program (args_of o.ty) × WellFormedCells o.cells
+
   abbrev pub WellFormedObjects : List Object → Type 0
   WellFormedObjects [] = Unit {0}
-  WellFormedObjects (o ∷ os) = WellFormedCells o.cells × WellFormedObjects os
+  WellFormedObjects (o ∷ os) = WellFormedObject o × WellFormedObjects os
 
   abbrev pub WellFormedStatics : List Statics → Type 0
   WellFormedStatics [] = Unit {0}

@@ -3,3 +3,4 @@ pub mod OneRequiresLaws
 mod FoundLaws
 mod WholeLaws
 mod RootLaws
+mod BaseLaws

@@ -1,6 +1,6 @@
 -- The heights of the body's stack, and the whole written program.
 use Rattle.std.proofs.Common.{◌≡◌, ℕ, zero, suc, ◌<◌, ◌≤◌, Bool, true, false, List, [], ◌∷◌, ◌++◌, length, Some, None, Option, refl, sym, ap, ◌∙◌, subst, arith}
-use Rattle.std.specs.Prelude.{slice_get, nat_lt, find, IsTrue, pos, option_map, option_and_then, if◌then◌else◌, Contains, ◌&&◌, not}
+use Rattle.std.specs.Prelude.{slice_get, nat_lt, find, IsTrue, pos, option_map, option_and_then, if◌then◌else◌, codes, Contains, ◌&&◌, not}
 use Rattle.cil_model.specs.declared.ty.Ty.{Ty, out-Ty, Prim}
 use Rattle.cil_model.specs.declared.value.Value.{Value, I4, I8, Native}
 use Rattle.cil_model.specs.declared.body.Instr.{Instr}
@@ -37,7 +37,7 @@ use Rattle.cil_semantics.specs.Numbers as number
 use Rattle.cil_semantics.specs.Places.{Truncated, storage, stored_in}
 use Rattle.cil_semantics.specs.Numbers.{B32}
 use Rattle.cil_semantics.specs.Returns.{returned, kept_as}
-use Rattle.cil_semantics.specs.Tokens.{Here, ref_type, meaning_here}
+use Rattle.cil_semantics.specs.Tokens.{Here, ref_type, meaning_here, constrained_here}
 use Rattle.cil_semantics.specs.Types.{under}
 use Rattle.cil_semantics.specs.Unwind.{body_of, place_in, plan_at, piece_at}
 use Rattle.machine_rows.specs.Everything.{everything}
@@ -51,6 +51,7 @@ use Rattle.splice_facts.specs.Spliced.{Spliced}
 use Rattle.machine_laws.specs.Answers.{is_below}
 use Rattle.splice_rows.specs.OneRequires.{contracts, the_plan, input, output, numbers, written_methods, heights_here, marks_of, Meets}
 use Rattle.splice_rows.proofs.RootLaws.{Rooted, at_root, exception, rooted_from}
+use Rattle.splice_rows.proofs.BaseLaws.{class_whole, object_whole, bases_whole}
 use Rattle.splice_rows.proofs.FoundLaws.{OverridesNothing, each_at, found_below}
 use Rattle.splice_rows.proofs.OneRequiresCode.{depths, helpers, code, in_entry, never_called}
 use Rattle.splice_rows.proofs.OneRequiresLaws.{each, not_check, not_check_too, only, facts, spliced}
@@ -323,6 +324,19 @@ names (suc zero) (InGroup gr j q) i here l me a b h e = absurd h
 names (suc zero) (Rest q) i here l me a b h e = let z : None ≡ Some i = e in absurd (cc z)
 names (suc (suc m)) at i here l me a b h e = absurd (omega (arith, l))
 
+unconstrained : (at : ProgramPoint) (i : Instr) → IsHere (Some the_plan) at → fetch input contracts numbers (Some the_plan) 0 at ≡ Some i → (h : Here) → constrained_here input h i ≡ None
+unfolding everything
+unconstrained at i here e =
+    each (λ at1 j. (h : Here) → constrained_here input h j ≡ None) (λ h. refl) (λ h. refl) (λ h. refl) (λ h. refl) (λ h. refl) (λ h. refl) (λ h. refl) (λ h. refl) at i here e
+
+constrains : (m : ℕ) (at : ProgramPoint) (i : Instr) (here : Here) (t : Ty) → m < 2 → here.method ≡ m → NoneVoid input here.type_args → NoneVoid input here.method_args → IsHere (plan_at contracts input m) at → fetch input contracts numbers (plan_at contracts input m) m at ≡ Some i → constrained_here input here i ≡ Some t → NoneVoid input (args_of t)
+unfolding everything
+constrains zero at i here t l me a b h e q = let z : None ≡ Some t = sym (unconstrained at i h e here) ∙ q in absurd (cc z)
+constrains (suc zero) (LeadIn q) i here t l me a b h e r = absurd h
+constrains (suc zero) (InGroup gr j q) i here t l me a b h e r = absurd h
+constrains (suc zero) (Rest q) i here t l me a b h e r = let z : None ≡ Some i = e in absurd (cc z)
+constrains (suc (suc m)) at i here t l me a b h e r = absurd (omega (arith, l))
+
 giving : (at : ProgramPoint) (i : Instr) → IsHere (Some the_plan) at → fetch input contracts numbers (Some the_plan) 0 at ≡ Some i → (h : Here) → NamesGiving input (meaning_here input h i)
 unfolding everything core_of
 giving at i here e = each (λ at1 j. (h : Here) → NamesGiving input (meaning_here input h j)) (λ h. tt) (λ h. tt) (λ h. tt) (λ h. tt) (λ h. tt) (λ h. tt) (λ h. tt) (λ h. tt) at i here e
@@ -341,6 +355,13 @@ bases = each_at (λ (d : TypeDesc). (args : List Ty) → Rooted 13 input (maybe 
   where
     at_top : (args : List Ty) → Rooted 13 input object_ty
     at_top args = at_root 13 input
+
+no_void : (k : ℕ) (args : List Ty) → NoneVoid input (args_of (maybe object_ty (under args []) (type_of input k).base))
+unfolding everything
+no_void = each_at (λ (d : TypeDesc). (args : List Ty) → NoneVoid input (args_of (maybe object_ty (under args []) d.base))) input.types contract_exception (at_top, (at_top, (at_top, (at_top, (at_top, (at_top, tt)))))) (λ args. class_whole input (codes "System.Exception"))
+  where
+    at_top : (args : List Ty) → NoneVoid input (args_of object_ty)
+    at_top args = object_whole input
 
 rooted : (t : Ty) → is_sub input t object_ty ≡ true
 unfolding is_sub everything
@@ -362,6 +383,8 @@ whole =
       guard = let e : 4 ≤ 100 = omega arith in e;
       rooted = rooted;
       names = names;
+      constrains = constrains;
+      bases = λ t u h e. bases_whole input no_void t u e;
       gives = λ m at i here l me h e c. gives m at i here l me h e;
       owned = owned;
       exceptions = no_exceptions;

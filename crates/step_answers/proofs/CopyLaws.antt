@@ -1,6 +1,7 @@
 -- A step at a copied instruction, at a `ret`, and behind the end of the code.
 use Rattle.std.proofs.Common.{◌≡◌, ℕ, suc, ◌+◌, ◌<◌, Bool, true, false, List, [], ◌∷◌, length, Option, Some, None, refl, sym, ap, ◌∙◌, subst, arith, take, drop}
 use Rattle.std.specs.Prelude.{map, slice_get, nat_le, if◌then◌else◌, IsTrue, reverse}
+use Rattle.cil_model.specs.declared.ty.Ty.{Ty}
 use Rattle.cil_model.specs.declared.value.Value.{Value}
 use Rattle.cil_model.specs.declared.body.Instr.{Instr}
 use Rattle.cil_model.specs.declared.contract.Contracts.{Contracts}
@@ -12,6 +13,7 @@ use Rattle.cil_model.specs.NoContracts.{no_contracts}
 use Rattle.il_opcodes.specs.Opcodes.{class_of}
 use Rattle.il_opcodes.specs.declared.class.Class.{Class}
 use Rattle.il_opcodes.specs.declared.class.Class.TheVariants as class
+use Rattle.cil_semantics.specs.Lookups.{args_of}
 use Rattle.cil_semantics.specs.declared.state.Cell.{Cell}
 use Rattle.cil_semantics.specs.declared.state.World.{World}
 use Rattle.cil_semantics.specs.declared.state.Statics.{Statics}
@@ -35,7 +37,7 @@ use Rattle.machine_laws.specs.Answers.{is_below}
 use Rattle.splice_facts.specs.Acting.{KeepsPlaces, WellFormedAct}
 use Rattle.splice_facts.specs.Bodies.{with_methods}
 use Rattle.splice_facts.specs.Grown.{beside, grow_act}
-use Rattle.splice_facts.specs.WellFormed.{Bounds, WellFormedLocal, WellFormedValues}
+use Rattle.splice_facts.specs.WellFormed.{Bounds, WellFormedLocal, WellFormedValues, NoneVoid}
 use Rattle.splice_facts.specs.Layout.{Marks, IsHere, Onward, fetch, never_falls}
 use Rattle.splice_facts.specs.Input.{is_group, never_in_clause, PiecesIf}
 use Rattle.splice_facts.specs.Spliced.{Beside, IsPlainAt, has_exit}
@@ -214,6 +216,7 @@ module _ (p : Program) (k : Contracts) (ms : List MethodDesc) (g : AddedNumbers)
         pub owner : IsTrue (is_below r.types c.owner)
         pub values : WellFormedValues Bs c.values
         pub fine : WellFormedLocal Bs l
+        pub constrained : (u : Ty) → c.constrained ≡ Some u → NoneVoid p (args_of u)
 
       abbrev CallReady : Act → Type 0
       CallReady Acts.Stuck = Unit {0}
@@ -233,7 +236,7 @@ module _ (p : Program) (k : Contracts) (ms : List MethodDesc) (g : AddedNumbers)
       by_ready on (Acts.CallMember c l) e x = answered_call (Acts.CallMember c l) e (x.kept, x.old, x.owner) (on, x.values)
       by_ready on (Acts.CallVirtual c l) e x =
           answered_call (Acts.CallVirtual c l) e (x.kept, x.old, x.owner)
-          (on, record { old = x.old; owner = x.owner; values = x.values; frames = (x.fine, well_formed_frames fs a.top.below.others); world = a.top.below.world })
+          (on, record { old = x.old; owner = x.owner; values = x.values; frames = (x.fine, well_formed_frames fs a.top.below.others); world = a.top.below.world; constrained = x.constrained })
       by_ready on (Acts.NewObject c l) e x = answered_call (Acts.NewObject c l) e (x.kept, x.old, x.owner) (on, x.values)
       by_ready on (Acts.LoadVirtualFunction c l) e x = answered_call (Acts.LoadVirtualFunction c l) e (x.kept, x.old, x.owner) on
       by_ready on (Acts.GoOn made l) e x = absurd x
@@ -269,7 +272,7 @@ module _ (p : Program) (k : Contracts) (ms : List MethodDesc) (g : AddedNumbers)
           by_test : (b : Bool) → CallReady (if b then go call (with_stack f.local rest) else Acts.Stuck)
           by_test true =
               let v = restacked p k ms g r f rest fs places (dropped_values Bs n f.local.stack places.fine.stack) in
-              h call (with_stack f.local rest) (record { kept = kept (with_stack f.local rest) v refl; old = o.0; owner = o.1; values = reversed Bs (take n f.local.stack) (taken_values Bs n f.local.stack places.fine.stack); fine = v.fine })
+              h call (with_stack f.local rest) (record { kept = kept (with_stack f.local rest) v refl; old = o.0; owner = o.1; values = reversed Bs (take n f.local.stack) (taken_values Bs n f.local.stack places.fine.stack); fine = v.fine; constrained = λ u q. r.constrains f.method f.at i (here_of f fs) u a.top.frame.stands.old refl a.top.as_named.2 a.top.as_named.3 here found q })
           by_test false = tt
 
       ready : (c : Class) → class_of i.op ≡ c → CallReady (act_of_class p (here_of f fs) i w0 f.local c) → never_falls c ≡ false → Goal

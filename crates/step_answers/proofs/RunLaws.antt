@@ -27,7 +27,7 @@ use Rattle.object_validity.specs.Known.{References, KeepsReferences}
 use Rattle.object_validity.proofs.PerformLaws.{entries_known}
 use Rattle.object_validity.proofs.StepLaws.{each_step_known}
 use Rattle.step_answers.proofs.ObjectLaws.{objects_there}
-use Rattle.step_answers.specs.Runs.{AskedNow, AskedAlong, AnsweredWhole, RunsAnswered}
+use Rattle.step_answers.specs.Runs.{AnsweredWhole, RunsAnswered}
 use Rattle.step_answers.proofs.EntryLaws.{entries_begin}
 use Rattle.step_answers.proofs.SiteLaws.{runs_here}
 use Rattle.step_answers.proofs.JoinLaws.{steps_answered}
@@ -45,12 +45,11 @@ module _ (p : Program) (k : Contracts) (ms : List MethodDesc) (g : AddedNumbers)
   abbrev laid : State → ℕ
   laid = laid_by p k ms g r
 
-  -- the states of both runs, with what is asked of the first run from here on
+  -- the states of both runs, with what the first keeps
   record Going (s s' : State) : Type 0 where
     pub related : R s s'
     pub sound : Sound p k ms g r s
     pub references : References s
-    pub asked : AskedAlong p k ms g r s
 
   -- one step
   record Stepped (s s' : State) : Type 0 where
@@ -58,23 +57,23 @@ module _ (p : Program) (k : Contracts) (ms : List MethodDesc) (g : AddedNumbers)
     pub sound : StaysValid p k ms g r (step p k g s)
     pub references : KeepsReferences (step p k g s)
 
-  from_frames : (xs ys : List Frame) (w : World) (ss : _) → Frames p k ms g r xs ys → BesideIn p k ms g r w ss → Sound p k ms g r (record { frames = xs; world = w }) → References (record { frames = xs; world = w }) → AskedNow p k ms g r (record { frames = xs; world = w }) → Stepped (record { frames = xs; world = w }) (record { frames = ys; world = beside ss w })
-  from_frames xs ys w ss (Frames.top f f' fs fs' pair here under) bes sound refs asked =
+  from_frames : (xs ys : List Frame) (w : World) (ss : _) → Frames p k ms g r xs ys → BesideIn p k ms g r w ss → Sound p k ms g r (record { frames = xs; world = w }) → References (record { frames = xs; world = w }) → Stepped (record { frames = xs; world = w }) (record { frames = ys; world = beside ss w })
+  from_frames xs ys w ss (Frames.top f f' fs fs' pair here under) bes sound refs =
       record {
         answer = steps_answered p k ms g r f f' fs fs' w ss (Frames.top f f' fs fs' pair here under) bes sound (objects_there p k ms g r f fs w refs);
-        sound = steps_stay p k ms g r f fs w (runs_here p k ms g r f f' fs fs' w here under sound) ((sound.valid.heights).0) (asked f fs refl);
+        sound = steps_stay p k ms g r f fs w (runs_here p k ms g r f f' fs fs' w here under sound) ((sound.valid.heights).0);
         references = each_step_known p k g (record { frames = f ∷ fs; world = w }) refs;
       }
 
   stepped : (s s' : State) → Going s s' → Stepped s s'
   stepped s s' h =
-      let x = from_frames s.frames s'.frames s.world (h.related).statics (h.related).frames (h.related).alike h.sound h.references (h.asked 0 s refl) in
+      let x = from_frames s.frames s'.frames s.world (h.related).statics (h.related).frames (h.related).alike h.sound h.references in
       subst (λ w. Stepped s (record { frames = s'.frames; world = w })) (sym (h.related).world) x
 
   -- what a step comes to goes on so
   goes_on : (s s' : State) → Going s s' → (x y : Next) → step p k g s ≡ x → Match E R x y → StaysValid p k ms g r x → KeepsReferences x → Match E Going x y
   goes_on s s' h (Running u) (Running u') e m v refs =
-      record { related = m; sound = v; references = refs; asked = λ n a q. h.asked (suc n) a (ap (λ z. and_then z (runs (step p k g) n)) e ∙ q) }
+      record { related = m; sound = v; references = refs }
   goes_on s s' h (Ended o w) (Ended o' w') e m v refs = m
   goes_on s s' h (Running u) (Ended o' w') e m v refs = absurd m
   goes_on s s' h (Ended o w) (Running u') e m v refs = absurd m
@@ -100,15 +99,15 @@ module _ (p : Program) (k : Contracts) (ms : List MethodDesc) (g : AddedNumbers)
 
   -- ---- from an entry
 
-  begun : (s t : State) (j : ℕ) → AskedAlong p k ms g r s → Sound p k ms g r s → References s → j + laid s ≤ bound_of k p → Match E R (Running s) (runs (plain_step p') j t) → Lifted (step p k g) (plain_step p') E (bound_of k p) s t
-  begun s t j asked sound refs le same = by_next (runs (plain_step p') j t) refl same
+  begun : (s t : State) (j : ℕ) → Sound p k ms g r s → References s → j + laid s ≤ bound_of k p → Match E R (Running s) (runs (plain_step p') j t) → Lifted (step p k g) (plain_step p') E (bound_of k p) s t
+  begun s t j sound refs le same = by_next (runs (plain_step p') j t) refl same
     where
       by_next : (y : Next) → runs (plain_step p') j t ≡ y → Match E R (Running s) y → Lifted (step p k g) (plain_step p') E (bound_of k p) s t
-      by_next (Running s') e m = lifts (step p k g) (plain_step p') E Going laid (bound_of k p) simulates j s s' t (record { related = m; sound = sound; references = refs; asked = asked }) e le
+      by_next (Running s') e m = lifts (step p k g) (plain_step p') E Going laid (bound_of k p) simulates j s s' t (record { related = m; sound = sound; references = refs }) e le
       by_next (Ended o w) e m = absurd m
 
-  answers_whole : (m : ℕ) (args : List Value) (rs : List Reply) (s : State) → m < r.methods → IsEntry p m args → start p k m args rs ≡ Running s → AskedAlong p k ms g r s → AnsweredWhole p k ms g r m args rs s
-  answers_whole m args rs s old entry starts asked =
+  answers_whole : (m : ℕ) (args : List Value) (rs : List Reply) (s : State) → m < r.methods → IsEntry p m args → start p k m args rs ≡ Running s → AnsweredWhole p k ms g r m args rs s
+  answers_whole m args rs s old entry starts =
       let a = starts_alike p k ms g r m args rs old in
       by_start (start p' no_contracts m args rs) refl a.steps
       (subst (λ z. a.steps + weight laid z ≤ cost k p + per_frame p k ms g r 2) starts a.most)
@@ -118,8 +117,8 @@ module _ (p : Program) (k : Contracts) (ms : List MethodDesc) (g : AddedNumbers)
     where
       by_start : (y : Next) → start p' no_contracts m args rs ≡ y → (j : ℕ) → j + laid s ≤ cost k p + per_frame p k ms g r 2 → Match E R (Running s) (and_then (start p' no_contracts m args rs) (runs (plain_step p') j)) → Sound p k ms g r s → References s
           → (t : State) × (start p' no_contracts m args rs ≡ Running t) × Lifted (step p k g) (plain_step p') E (bound_of k p) s t
-      by_start (Running t) e j le same sound refs = (t, e, begun s t j asked sound refs (omega (arith, le)) (subst (λ y. Match E R (Running s) (and_then y (runs (plain_step p') j))) e same))
+      by_start (Running t) e j le same sound refs = (t, e, begun s t j sound refs (omega (arith, le)) (subst (λ y. Match E R (Running s) (and_then y (runs (plain_step p') j))) e same))
       by_start (Ended o w) e j le same sound refs = absurd (subst (λ y. Match E R (Running s) (and_then y (runs (plain_step p') j))) e same)
 
   pub runs_answered : RunsAnswered p k ms g r
-  runs_answered m args rs old entry = let b = entries_begin p k m args rs entry in (b.0, b.1, λ asked. answers_whole m args rs b.0 old entry b.1 asked)
+  runs_answered m args rs old entry = let b = entries_begin p k m args rs entry in (b.0, b.1, answers_whole m args rs b.0 old entry b.1)

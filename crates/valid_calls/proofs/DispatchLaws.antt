@@ -49,7 +49,6 @@ use Rattle.simulation_valid.proofs.UnwindValidLaws.{places_of, restacked}
 use Rattle.simulation_valid.proofs.MoveValidLaws.{loads_valid, relocal}
 use Rattle.simulation_valid.proofs.ClauseValidLaws.{clauses_end_valid, captures_valid, recalls_valid, results_valid, inline_checks_valid}
 use Rattle.simulation_valid.proofs.StepValidLaws.{steps_valid}
-use Rattle.valid_calls.specs.Steps.{IsAsked}
 use Rattle.valid_calls.proofs.CallStepLaws.{call_stays, new_stays}
 use Rattle.valid_calls.proofs.ExceptionValidLaws.{exceptions_valid}
 use Rattle.valid_calls.proofs.VirtualStepLaws.{virtual_step, function_step}
@@ -93,7 +92,7 @@ module _ (p : Program) (k : Contracts) (ms : List MethodDesc) (g : AddedNumbers)
       }
   told before (Ended o w) h = tt
 
-  module _ (f : Frame) (fs : List Frame) (w : World) (a : RunsHere p k ms g r f fs w) (height : HasHeight p k ms g r f f.at 0) (asked : IsAsked p k ms g r f fs w) where
+  module _ (f : Frame) (fs : List Frame) (w : World) (a : RunsHere p k ms g r f fs w) (height : HasHeight p k ms g r f f.at 0) where
     -- an instruction that is no contract call
     runs_valid : (i : Instr) → fetch p k g (plan_at k p f.method) f.method f.at ≡ Some i → Stays (run_plain p k g i f fs w)
     runs_valid i found = by_class (class_of i.op) refl
@@ -101,8 +100,8 @@ module _ (p : Program) (k : Contracts) (ms : List MethodDesc) (g : AddedNumbers)
         by_class : (c : Class) → class_of i.op ≡ c → Stays (run_plain p k g i f fs w)
         by_class class.Call e = call_stays p k ms g r i f fs w a height found e (r.gives f.method f.at i (here_of f fs) a.top.frame.stands.old refl a.here found (subst CallsMember (sym e) tt))
         by_class class.NewObject e = new_stays p k ms g r i f fs w a height found e
-        by_class class.CallVirtual e = virtual_step p k ms g r i f fs w a height found e (r.gives f.method f.at i (here_of f fs) a.top.frame.stands.old refl a.here found (subst CallsMember (sym e) tt)) (asked.virtual i found e)
-        by_class class.LoadVirtualFunction e = function_step p k ms g r i f fs w a height found e (asked.functions i found e)
+        by_class class.CallVirtual e = virtual_step p k ms g r i f fs w a height found e (r.gives f.method f.at i (here_of f fs) a.top.frame.stands.old refl a.here found (subst CallsMember (sym e) tt))
+        by_class class.LoadVirtualFunction e = function_step p k ms g r i f fs w a height found e
         by_class c e = steps_valid p k ms g r i f fs w a height found (subst (MayStep p k ms g r i f fs w) (sym e) tt)
 
     checks_here : (c : Plan) (kd : ClauseKind) (home : ℕ) (label : Name) (i : Instr) → plan_at k p f.method ≡ Some c → fetch p k g (Some c) f.method f.at ≡ Some i → contract_call p i ≡ ChecksHere kd → Stays (Rattle.cil_semantics.specs.Checks.check_inline p k g c kd home label i f fs w)
@@ -204,6 +203,6 @@ module _ (p : Program) (k : Contracts) (ms : List MethodDesc) (g : AddedNumbers)
         by_plan None e = bare f.at refl e
         by_plan (Some c) e = at_plan c f.at refl e
 
-  pub steps_stay : (f : Frame) (fs : List Frame) (w : World) → RunsHere p k ms g r f fs (unrecorded w) → HasHeight p k ms g r f f.at 0 → IsAsked p k ms g r f fs (unrecorded w) → Stays (step p k g (record { frames = f ∷ fs; world = w }))
+  pub steps_stay : (f : Frame) (fs : List Frame) (w : World) → RunsHere p k ms g r f fs (unrecorded w) → HasHeight p k ms g r f f.at 0 → Stays (step p k g (record { frames = f ∷ fs; world = w }))
   unfolding step
-  steps_stay f fs w a height asked = told w.trace (step_frames p k g (f ∷ fs) (unrecorded w)) (step_valid f fs (unrecorded w) a height asked)
+  steps_stay f fs w a height = told w.trace (step_frames p k g (f ∷ fs) (unrecorded w)) (step_valid f fs (unrecorded w) a height)

@@ -84,13 +84,13 @@ module _ (p : Program) (k : Contracts) (ms : List MethodDesc) (g : AddedNumbers)
 
     module _ (t : Ty) (m : ℕ) (values : List Value) (old : m < r.methods) (own : IsOwnClass p r.types r.methods t) (na : NoneVoid p (args_of t)) (fv : WellFormedValues Bs values) (v : World) (ok : WellFormedWorld Bs v) (e : v.depth ≡ w.depth) where
       makes_core : (x : CoreMember) (other : Next) → Stays other → Stays (make_core p k (throws_new p k) x t (f ∷ fs) v other)
-      makes_core Constructor other o = unchanged (number_of_object (out-Value (Obj (next_object v)))) (with_object p (new_object t []) v) (object_added Bs p (new_object t []) v tt ok) e
+      makes_core Constructor other o = unchanged (number_of_object (out-Value (Obj (next_object v)))) (with_object p (new_object t []) v) (object_added Bs p (new_object t []) v (na, tt) ok) e
       makes_core _ other o = o
 
       makes_outside : Stays (make_outside p k (throws_new p k) t m values (f ∷ fs) v)
       makes_outside =
           let member = record (member_of p t m []) { params = without_this (member_of p t m []).params } in
-          uses_answer v (ask_new p t member values (f ∷ fs) v) e (asks_new_valid p k ms g r t member values (f ∷ fs) v fv ok)
+          uses_answer v (ask_new p t member values (f ∷ fs) v) e (asks_new_valid p k ms g r t member values (f ∷ fs) v na fv ok)
 
       abbrev object : Object
       object = new_object t (default_cells p (map (λ (x : ℕ × Ty). x.1) (layout p t)))
@@ -104,7 +104,7 @@ module _ (p : Program) (k : Contracts) (ms : List MethodDesc) (g : AddedNumbers)
             tail = tail (ThrowObject (next_object v)) (a.here, a.placed);
             begun = refl;
             waiting = λ h q y. (λ plan o2 e2 outer. absurd (cc (sym inside ∙ outer)), a.top.below.heights);
-            world = object_added Bs p object v (defaults_fine Bs p (map (λ (x : ℕ × Ty). x.1) (layout p t))) ok;
+            world = object_added Bs p object v (na, defaults_fine Bs p (map (λ (x : ℕ × Ty). x.1) (layout p t))) ok;
             fine_back = tt;
             count = e ∙ a.top.count;
             deep = subst (λ n. n ≤ suc k.settings.guard) (sym e) a.top.deep;
@@ -127,7 +127,7 @@ module _ (p : Program) (k : Contracts) (ms : List MethodDesc) (g : AddedNumbers)
           others false false = tt
 
           by_delegate : (d : Bool) → Stays (if d then (throws_new p k).now (Obj (next_object v)) (f ∷ fs) (with_object p (new_object t (delegate_cells values)) v) else make_core p k (throws_new p k) (core_of p t m) t (f ∷ fs) v (if is_outside p m then make_outside p k (throws_new p k) t m values (f ∷ fs) v else if is_some (method_of p m).body then make_own p k (throws_new p k) t m values (f ∷ fs) v else stuck v))
-          by_delegate true = unchanged (number_of_object (out-Value (Obj (next_object v)))) (with_object p (new_object t (delegate_cells values)) v) (object_added Bs p (new_object t (delegate_cells values)) v (delegate_fine Bs values fv) ok) e
+          by_delegate true = unchanged (number_of_object (out-Value (Obj (next_object v)))) (with_object p (new_object t (delegate_cells values)) v) (object_added Bs p (new_object t (delegate_cells values)) v (na, delegate_fine Bs values fv) ok) e
           by_delegate false = makes_core (core_of p t m) _ (others (is_outside p m) (is_some (method_of p m).body))
 
     module _ (x : Failure) (passes : World → Next) (v : World) (t : Ty) (text : Value) (ft : WellFormedValue Bs text) (ok : WellFormedWorld Bs v) (e : v.depth ≡ w.depth) where
@@ -145,13 +145,16 @@ module _ (p : Program) (k : Contracts) (ms : List MethodDesc) (g : AddedNumbers)
       after_answer (Threw y gs u) z = throws_here u y z.world (z.depth ∙ e)
       after_answer (Unfit u) z = tt
 
-      throws_outside : Stays (throw_outside p g k.settings.throwing x sequel t text (f ∷ fs) v)
-      throws_outside = by_tests (is_core_exception p t) (is_named_type (out-Ty t))
+      throws_outside : in_set (out-Ty t) ≡ None → Stays (throw_outside p g k.settings.throwing x sequel t text (f ∷ fs) v)
+      throws_outside out = by_tests (is_core_exception p t) (is_named_type (out-Ty t))
         where
+          bare : NoneVoid p (args_of t)
+          bare = subst (λ (o : Option (ℕ × List Ty)). NoneVoid p (maybe [] (λ (d : ℕ × List Ty). d.1) o)) (sym out) tt
+
           by_tests : (b c : Bool)
               → Stays (if b then sequel.throws (with_object p (record { ty = t; cells = [] }) v) (next_object v) else if c then after_new p g k.settings.throwing x sequel (ask_new p t (constructor_member p g t) (text ∷ []) (f ∷ fs) v) else sequel.stops v)
-          by_tests true c = throws_here (with_object p (record { ty = t; cells = [] }) v) (next_object v) (object_added Bs p (record { ty = t; cells = [] }) v tt ok) e
-          by_tests false true = after_answer (ask_new p t (constructor_member p g t) (text ∷ []) (f ∷ fs) v) (asks_new_valid p k ms g r t (constructor_member p g t) (text ∷ []) (f ∷ fs) v (ft, tt) ok)
+          by_tests true c = throws_here (with_object p (record { ty = t; cells = [] }) v) (next_object v) (object_added Bs p (record { ty = t; cells = [] }) v (bare, tt) ok) e
+          by_tests false true = after_answer (ask_new p t (constructor_member p g t) (text ∷ []) (f ∷ fs) v) (asks_new_valid p k ms g r t (constructor_member p g t) (text ∷ []) (f ∷ fs) v bare (ft, tt) ok)
           by_tests false false = tt
 
       -- of the set
@@ -172,5 +175,5 @@ module _ (p : Program) (k : Contracts) (ms : List MethodDesc) (g : AddedNumbers)
     where
       by_set : (o : Option (ℕ × List Ty)) → in_set (out-Ty t) ≡ o
           → Stays (maybe (throw_outside p g k.settings.throwing x (goes_on_from p k (f ∷ fs) passes) t text (f ∷ fs) v) (λ (d : ℕ × List Ty). maybe (stuck v) (λ (c : ℕ × List Value). make p k (throws_new p k) t c.0 c.1 (f ∷ fs) v) (own_constructor p t x.home text)) o)
-      by_set None s = throws_outside f fs w a inside x passes v t text ft ok e
+      by_set None s = throws_outside f fs w a inside x passes v t text ft ok e s
       by_set (Some d) s = let c = classes t d kd mt s in makes_here f fs w a inside x passes v t text ft ok e c.0 c.1

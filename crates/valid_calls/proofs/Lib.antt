@@ -1,6 +1,7 @@
 mod MemberLaws
 mod NewValidLaws
 mod ExceptionValidLaws
+mod TypeLaws
 mod VirtualValidLaws
 mod VirtualStepLaws
 pub mod CallStepLaws

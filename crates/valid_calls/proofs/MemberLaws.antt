@@ -28,7 +28,7 @@ use Rattle.splice_facts.specs.Related.{Rewritten, HasHeight, bounds}
 use Rattle.splice_facts.specs.Related as Pairs
 use Rattle.simulation_valid.specs.Keeping.{StaysValid}
 use Rattle.simulation_valid.specs.Steps.{NextHeight, MayPush, MayReturn, MayCall}
-use Rattle.simulation_valid.proofs.WorldLaws.{object_added}
+use Rattle.simulation_valid.proofs.WorldLaws.{object_added, class_typed}
 use Rattle.simulation_valid.proofs.UnwindValidLaws.{unwinds}
 use Rattle.simulation_valid.proofs.PushValidLaws.{pushes_valid}
 use Rattle.simulation_valid.proofs.CallValidLaws.{calls_plainly_valid}
@@ -93,7 +93,7 @@ module _ (p : Program) (k : Contracts) (ms : List MethodDesc) (g : AddedNumbers)
 
   pub raises : (name : Name) (m : ℕ) (fs : List Frame) (w : World) → MayCall p k ms g r m fs w → Stays (raise p k name fs w)
   raises name m fs w c =
-      unwinds p k ms g r Push fs c.tail (with_object p (record { ty = class_named name; cells = [] }) w) (next_object w) (object_added Bs p (record { ty = class_named name; cells = [] }) w tt c.world) c.count c.deep
+      unwinds p k ms g r Push fs c.tail (with_object p (record { ty = class_named name; cells = [] }) w) (next_object w) (object_added Bs p (record { ty = class_named name; cells = [] }) w (class_typed Bs name, tt) c.world) c.count c.deep
 
   counts : (t : Texted) (m : ℕ) (fs : List Frame) (w : World) → MayCall p k ms g r m fs w → NextHeight p k ms g r 1 fs → Stays (count_units p k t fs w)
   counts NullText m fs w c next = raises (codes "System.NullReferenceException") m fs w c

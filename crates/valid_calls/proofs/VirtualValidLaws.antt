@@ -33,14 +33,14 @@ use Rattle.splice_facts.specs.Related.{Rewritten, bounds}
 use Rattle.simulation_objects.proofs.StoredLaws.{boxed_fine, read_fine}
 use Rattle.simulation_valid.specs.Keeping.{StaysValid}
 use Rattle.simulation_valid.specs.Steps.{NextHeight, MayCall}
-use Rattle.simulation_valid.proofs.WorldLaws.{object_added}
+use Rattle.simulation_valid.proofs.WorldLaws.{object_added, class_typed}
 use Rattle.simulation_valid.proofs.EnterValidLaws.{void_stays}
 use Rattle.simulation_valid.proofs.PushValidLaws.{pushes_valid}
 use Rattle.simulation_valid.proofs.MoveValidLaws.{frames_fine}
 use Rattle.simulation_valid.proofs.CallValidLaws.{caller_waits, calls_outside_valid, calls_plainly_valid}
 use Rattle.simulation_valid.proofs.DelegateValidLaws.{this_fine, delegate_enters}
-use Rattle.valid_calls.specs.Steps.{FindsWhole}
 use Rattle.valid_calls.proofs.MemberLaws.{by_core, raises}
+use Rattle.valid_calls.proofs.TypeLaws.{found_whole}
 
 twice : (x : Bool) → not (not x) ≡ x
 twice true = refl
@@ -77,7 +77,7 @@ module _ (p : Program) (k : Contracts) (ms : List MethodDesc) (g : AddedNumbers)
   as_many m n fs w e c = record { tail = c.tail; next = subst (λ j. NextHeight p k ms g r j fs) (sym e) c.next; world = c.world; count = c.count; deep = c.deep }
 
   -- with one more object
-  one_more : (o : Object) (m : ℕ) (fs : List Frame) (w : World) → Rattle.splice_facts.specs.WellFormed.WellFormedCells Bs o.cells → MayCall p k ms g r m fs w → MayCall p k ms g r m fs (with_object p o w)
+  one_more : (o : Object) (m : ℕ) (fs : List Frame) (w : World) → Rattle.splice_facts.specs.WellFormed.WellFormedObject Bs o → MayCall p k ms g r m fs w → MayCall p k ms g r m fs (with_object p o w)
   one_more o m fs w fine c = record { tail = c.tail; next = c.next; world = object_added Bs p o w fine c.world; count = c.count; deep = c.deep }
 
   -- the member that a token names
@@ -88,8 +88,8 @@ module _ (p : Program) (k : Contracts) (ms : List MethodDesc) (g : AddedNumbers)
     abbrev Waits : List Frame → World → Type 0
     Waits fs w = MayCall p k ms g r m fs w
 
-    abbrev Finds : Ty → Type 0
-    Finds t = FindsWhole p (owner, m) t
+    abbrev IsWhole : Ty → Type 0
+    IsWhole t = NoneVoid p (args_of t)
 
     module _ (gives : GivesAsDescribed (core_of p owner m) (result_count p m)) where
       unfound : (x : CoreMember) → GivesAsDescribed x (result_count p m) → (all : List Value) (q : Option Ty) (fs : List Frame) (w : World) → AllFine all → Waits fs w → Stays (call_unfound p k x (named all q) fs w)
@@ -114,7 +114,7 @@ module _ (p : Program) (k : Contracts) (ms : List MethodDesc) (g : AddedNumbers)
       wanted : (n : ℕ) → is_void (storage p (method_of p n).result) ≡ not (gives_value p owner m args) → result_count p n ≡ result_count p m
       wanted n e = ap (λ (c : Bool). if c then 0 else 1) (e ∙ twice _ ∙ void_stays p (args_of owner) args na nb (method_of p m).result)
 
-      plainly : (t : Ty) (s : Seen) (values all : List Value) (q : Option Ty) (fs : List Frame) (w : World) → Finds t → body_seen p t (owner, m) ≡ Some s → AllFine values → Waits fs w
+      plainly : (t : Ty) (s : Seen) (values all : List Value) (q : Option Ty) (fs : List Frame) (w : World) → IsWhole t → body_seen p t (owner, m) ≡ Some s → AllFine values → Waits fs w
           → Stays (if gives_alike p (named all q) s then Rattle.cil_semantics.specs.Calls.plain_call p k s.0 s.1 args values fs w else stuck w)
       plainly t s values all q fs w f e fv c = by_test (gives_alike p (named all q) s) refl
         where
@@ -122,16 +122,16 @@ module _ (p : Program) (k : Contracts) (ms : List MethodDesc) (g : AddedNumbers)
           by_test false y = tt
           by_test true y =
               let there = r.found t (owner, m) s old own e in
-              let full = f s e in
+              let full = found_whole p k ms g r t (owner, m) s f e in
               let same : is_void (storage p (method_of p s.1).result) ≡ not (gives_value p owner m args) =
-                  sym (void_stays p (args_of s.0) args full nb (method_of p s.1).result) ∙ both_give (gives_value p owner m args) (is_void (storage p (under (args_of s.0) args (method_of p s.1).result))) y in
+              sym (void_stays p (args_of s.0) args full nb (method_of p s.1).result) ∙ both_give (gives_value p owner m args) (is_void (storage p (under (args_of s.0) args (method_of p s.1).result))) y in
               calls_plainly_valid p k ms g r s.0 s.1 args values fs w there.0 there.1 full nb fv (as_many m s.1 fs w (wanted s.1 same) c)
 
-      found : (o : Option Seen) (t : Ty) (this : Value) (values all : List Value) (q : Option Ty) (fs : List Frame) (w : World) → body_seen p t (owner, m) ≡ o → Finds t → Fine this → AllFine values → AllFine all → Waits fs w → Stays (call_found p k o t (named all q) this values fs w)
+      found : (o : Option Seen) (t : Ty) (this : Value) (values all : List Value) (q : Option Ty) (fs : List Frame) (w : World) → body_seen p t (owner, m) ≡ o → IsWhole t → Fine this → AllFine values → AllFine all → Waits fs w → Stays (call_found p k o t (named all q) this values fs w)
       found None t this values all q fs w e f ft fv fa c = unfound (core_of p owner m) gives all q fs w fa c
       found (Some s) t this values all q fs w e f ft fv fa c = plainly t s (this_value p t (out-Value this) this ∷ values) all q fs w f e (this_fine p k ms g r t (out-Value this) this ft, fv) c
 
-      calls_on : (this : Value) (values all : List Value) (q : Option Ty) (fs : List Frame) (w : World) → ((t : Ty) → dynamic_type w this ≡ Some t → Finds t) → Fine this → AllFine values → AllFine all → Waits fs w → Stays (call_on p k (named all q) this values fs w)
+      calls_on : (this : Value) (values all : List Value) (q : Option Ty) (fs : List Frame) (w : World) → ((t : Ty) → dynamic_type w this ≡ Some t → IsWhole t) → Fine this → AllFine values → AllFine all → Waits fs w → Stays (call_on p k (named all q) this values fs w)
       calls_on this values all q fs w f ft fv fa c = by_tests (is_null this) (is_invoke p w (named all q) this)
         where
           by_type : (o : Option Ty) → dynamic_type w this ≡ o → Stays (if_there o w (λ t. call_found p k (body_seen p t (owner, m)) t (named all q) this values fs w))
@@ -144,14 +144,14 @@ module _ (p : Program) (k : Contracts) (ms : List MethodDesc) (g : AddedNumbers)
           by_tests false true = delegate_enters p k ms g r (gives_value p owner m args) (out-Value this) values Push fs w c.world fv (λ cells. tt) (λ n e. caller_waits p k ms g r n fs w (as_many m n fs w (wanted n e) c))
           by_tests false false = by_type (dynamic_type w this) refl
 
-      calls_boxed : (t : Ty) (v : Value) (values all : List Value) (q : Option Ty) (fs : List Frame) (w : World) → Finds t → Fine v → AllFine values → Waits fs w → Stays (call_boxed p k t v (named all q) values fs w)
+      calls_boxed : (t : Ty) (v : Value) (values all : List Value) (q : Option Ty) (fs : List Frame) (w : World) → IsWhole t → Fine v → AllFine values → Waits fs w → Stays (call_boxed p k t v (named all q) values fs w)
       calls_boxed t v values all q fs w f ft fv c = by_cell (new_cell p t v) refl
         where
           by_cell : (o : Option Cell) → new_cell p t v ≡ o → Stays (if_there o w (λ cell. call_on p k (named (Obj (next_object w) ∷ values) q) (Obj (next_object w)) values fs (with_object p (record { ty = t; cells = cell ∷ [] }) w)))
           by_cell None e = tt
           by_cell (Some cell) e =
-              calls_on (Obj (next_object w)) values (Obj (next_object w) ∷ values) q fs (with_object p (record { ty = t; cells = cell ∷ [] }) w) (λ u y. subst Finds (new_type p (record { ty = t; cells = cell ∷ [] }) w u y) f) tt fv (tt, fv)
-              (one_more (record { ty = t; cells = cell ∷ [] }) m fs w (boxed_fine Bs p t v cell ft e, tt) c)
+              calls_on (Obj (next_object w)) values (Obj (next_object w) ∷ values) q fs (with_object p (record { ty = t; cells = cell ∷ [] }) w) (λ u y. subst IsWhole (new_type p (record { ty = t; cells = cell ∷ [] }) w u y) f) tt fv (tt, fv)
+              (one_more (record { ty = t; cells = cell ∷ [] }) m fs w (f, (boxed_fine Bs p t v cell ft e, tt)) c)
 
       own_is : (t : Ty) (s : Seen) → own_body p t (owner, m) ≡ Some s → body_seen p t (owner, m) ≡ Some s
       own_is t s e = by_seen (body_seen p t (owner, m)) e
@@ -169,11 +169,11 @@ module _ (p : Program) (k : Contracts) (ms : List MethodDesc) (g : AddedNumbers)
       pointer_fine (val.Ptr q0) q fine e = let y : q0 ≡ q = cc e in subst (WellFormedPointer Bs) y fine
       pointer_fine _ q fine e = absurd (cc e)
 
-      module _ (fs : List Frame) (w : World) (objects : (v : Value) (t : Ty) → dynamic_type w v ≡ Some t → Finds t) (c : Waits fs w) where
+      module _ (fs : List Frame) (w : World) (objects : (v : Value) (t : Ty) → dynamic_type w v ≡ Some t → IsWhole t) (c : Waits fs w) where
         read_there : (x : Pointer) (v : Value) → WellFormedPointer Bs x → read p fs w x ≡ Some v → Fine v
         read_there x v fx e = read_fine Bs p fs w x v (frames_fine p k ms g r fs c.tail.others) c.world e
 
-        calls_struct : (o : Option Seen) (t : Ty) (x : Pointer) (values all : List Value) (q : Option Ty) → own_body p t (owner, m) ≡ o → Finds t → WellFormedPointer Bs x → AllFine values → Stays (call_struct p k o t x (named all q) values fs w)
+        calls_struct : (o : Option Seen) (t : Ty) (x : Pointer) (values all : List Value) (q : Option Ty) → own_body p t (owner, m) ≡ o → IsWhole t → WellFormedPointer Bs x → AllFine values → Stays (call_struct p k o t x (named all q) values fs w)
         calls_struct (Some s) t x values all q e f fx fv = plainly t s (Ptr x ∷ values) all q fs w f (own_is t s e) (fx, fv) c
         calls_struct None t x values all q e f fx fv = by_value (read p fs w x) refl
           where
@@ -181,7 +181,7 @@ module _ (p : Program) (k : Contracts) (ms : List MethodDesc) (g : AddedNumbers)
             by_value None h = tt
             by_value (Some v) h = calls_boxed t v values all q fs w f (read_there x v fx h) fv c
 
-        calls_constrained : (q : Option Ty) (this : Value) (values : List Value) → ((t : Ty) → q ≡ Some t → Finds t) → Fine this → AllFine values → Stays (call_constrained p k q (named (this ∷ values) q) this values fs w)
+        calls_constrained : (q : Option Ty) (this : Value) (values : List Value) → ((t : Ty) → q ≡ Some t → IsWhole t) → Fine this → AllFine values → Stays (call_constrained p k q (named (this ∷ values) q) this values fs w)
         calls_constrained None this values own_type ft fv = calls_on this values (this ∷ values) None fs w (objects this) ft fv (ft, fv) c
         calls_constrained (Some t) this values own_type ft fv = by_pointer (pointed (out-Value this)) refl
           where
@@ -199,7 +199,7 @@ module _ (p : Program) (k : Contracts) (ms : List MethodDesc) (g : AddedNumbers)
             by_pointer (Some x) e = by_kind x (pointer_fine this x ft e) (is_reference (storage p t))
 
         -- callvirt
-        pub virtual_stays : (values : List Value) (q : Option Ty) → ((t : Ty) → q ≡ Some t → Finds t) → AllFine values → Stays (call_virtual p k (named values q) fs w)
+        pub virtual_stays : (values : List Value) (q : Option Ty) → ((t : Ty) → q ≡ Some t → IsWhole t) → AllFine values → Stays (call_virtual p k (named values q) fs w)
         unfolding call_virtual
         virtual_stays values q own_type fv = by_static (method_of p m).is_static
           where
@@ -212,10 +212,10 @@ module _ (p : Program) (k : Contracts) (ms : List MethodDesc) (g : AddedNumbers)
             by_static false = by_values values fv
 
     -- ldvirtftn, from frames that wait for one value
-    module _ (fs : List Frame) (w : World) (objects : (v : Value) (t : Ty) → dynamic_type w v ≡ Some t → Finds t) (c : Rattle.valid_calls.specs.Members.MayMake p k ms g r fs w) where
-      function_fine : (t : Ty) (all : List Value) (q : Option Ty) → Finds t → (o : Option Seen) → body_seen p t (owner, m) ≡ o → Fine (function_of p (named all q) o)
+    module _ (fs : List Frame) (w : World) (objects : (v : Value) (t : Ty) → dynamic_type w v ≡ Some t → IsWhole t) (c : Rattle.valid_calls.specs.Members.MayMake p k ms g r fs w) where
+      function_fine : (t : Ty) (all : List Value) (q : Option Ty) → IsWhole t → (o : Option Seen) → body_seen p t (owner, m) ≡ o → Fine (function_of p (named all q) o)
       function_fine t all q f None e = (old, na, nb)
-      function_fine t all q f (Some s) e = ((r.found t (owner, m) s old own e).0, f s e, nb)
+      function_fine t all q f (Some s) e = ((r.found t (owner, m) s old own e).0, found_whole p k ms g r t (owner, m) s f e, nb)
 
       pub function_stays : (values all : List Value) (q : Option Ty) → Stays (find_virtual_on p k (named all q) values fs w)
       function_stays [] all q = tt
@@ -230,5 +230,5 @@ module _ (p : Program) (k : Contracts) (ms : List MethodDesc) (g : AddedNumbers)
           by_null : (b : Bool) → Stays (if b then raise p k (codes "System.NullReferenceException") fs w else if_there (dynamic_type w this) w (λ t. push_below p k (Some (function_of p (named all q) (body_seen p t (owner, m)))) fs w))
           by_null true =
               Rattle.simulation_valid.proofs.UnwindValidLaws.unwinds p k ms g r Push fs c.tail (with_object p (record { ty = Rattle.cil_semantics.specs.Core.class_named (codes "System.NullReferenceException"); cells = [] }) w) (next_object w)
-              (object_added Bs p (record { ty = Rattle.cil_semantics.specs.Core.class_named (codes "System.NullReferenceException"); cells = [] }) w tt c.world) c.count c.deep
+              (object_added Bs p (record { ty = Rattle.cil_semantics.specs.Core.class_named (codes "System.NullReferenceException"); cells = [] }) w (class_typed Bs (codes "System.NullReferenceException"), tt) c.world) c.count c.deep
           by_null false = by_type (dynamic_type w this) refl
