@@ -6,9 +6,9 @@ use Rattle.cil_base.specs.declared.rule.Rule.{Rule}
 use Rattle.cil_base.specs.declared.rule.Rule.TheVariants.{N1, N3, N4}
 use Rattle.cil_base.specs.Refusals.{Test, refusal}
 use Rattle.cil_model.specs.declared.ty.Ty.{Ty, out-Ty, Prim, Known, Outside, Array', ByRef', Var, MVar, Opaque, Inst', Row_of-Ty, end_of-Ty, more_of-Ty}
+use Rattle.cil_model.specs.declared.ty.Ty.TheOpen.{Ty-F}
 use Rattle.cil_model.specs.declared.program.Kind.{Kind}
 use Rattle.cil_model.specs.declared.program.Kind.TheVariants.{Struct}
-use Rattle.cil_semantics.specs.Lookups.{in_set}
 use Rattle.cil_semantics.specs.Core.{core_classes, prim_names}
 use Rattle.set_names.specs.Names.{Name, is_name}
 use Rattle.set_names.specs.Paths.{if_row, path_within}
@@ -64,15 +64,28 @@ row_of_number s k = option_and_then defined_at (slice_get (types_of s) k)
 abbrev pub is_on_cycle : Assemblies → (ℕ → List ℕ) → ℕ → Bool
 is_on_cycle s next k = reaches next (length (types_of s)) k k
 
-abbrev pub definition : Option Ty → List ℕ
-definition t = option_to_list (option_and_then (λ u. option_map (λ (d : ℕ × List Ty). d.0) (in_set (out-Ty u))) t)
+-- to which types a base or an interface leads: to its definition, and a type parameter to the type itself that has it
+abbrev pub layer_leads_to : List ℕ → Ty-F Ty → List ℕ
+layer_leads_to itself (Ty-F.Known k) = k ∷ []
+layer_leads_to itself (Ty-F.Inst k args) = k ∷ []
+layer_leads_to itself (Ty-F.Var k) = itself
+layer_leads_to itself (Ty-F.MVar k) = itself
+layer_leads_to itself _ = []
 
--- the base and the interfaces of a type, by their definitions
+abbrev pub leads_to : List ℕ → Option Ty → List ℕ
+leads_to itself None = []
+leads_to itself (Some t) = layer_leads_to itself (out-Ty t)
+
+-- the number of a row, if it is there
+abbrev pub own_number : Assemblies → ℕ → ℕ → List ℕ
+own_number s a row = option_to_list (number_of s (id.Row a row))
+
+-- the base and the interfaces of a type, by what they lead to
 abbrev pub above : Assemblies → ℕ → List ℕ
 above s k =
     flat_map
-    (λ (r : Cell). definition (ty_at s r.0 (cell (assembly_at s r.0) TYPE_DEF r.1 3))
-    ++ flat_map (λ i. definition (ty_at s r.0 (cell (assembly_at s r.0) INTERFACE_IMPL i 1))) (filter (λ i. cell (assembly_at s r.0) INTERFACE_IMPL i 0 == r.1) (rows_in (assembly_at s r.0) INTERFACE_IMPL)))
+    (λ (r : Cell). leads_to (own_number s r.0 r.1) (ty_at s r.0 (cell (assembly_at s r.0) TYPE_DEF r.1 3))
+    ++ flat_map (λ i. leads_to (own_number s r.0 r.1) (ty_at s r.0 (cell (assembly_at s r.0) INTERFACE_IMPL i 1))) (filter (λ i. cell (assembly_at s r.0) INTERFACE_IMPL i 0 == r.1) (rows_in (assembly_at s r.0) INTERFACE_IMPL)))
     (option_to_list (row_of_number s k))
 
 -- the type around it

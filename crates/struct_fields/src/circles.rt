@@ -39,7 +39,7 @@ pub fn find_entangled(
     ensures { IfOk result (λ v. v.items ≡ map (is_entangled types.now) (range_with_len 0 (length (types_of types.now)))) }
 {
     let structs = struct_lists(alloc, types, table)?;
-    let bases = above_lists(alloc, table)?;
+    let bases = above_lists(alloc, types, table)?;
     let nestings = around_lists(alloc, types, table)?;
     let all = entangled_types(
         alloc,

@@ -35,17 +35,17 @@ module _ (s : Assemblies) (assemblies : List AssemblyMembers) (types : List SetT
   count_are = sym (length-map assemblies (λ (m : AssemblyMembers). m.rows)) ∙ ap length are.rows
 
   abbrev pub above_of : ℕ → ℕ → List ℕ
-  above_of a = above_row (assembly_at s a) (coded_in s a)
+  above_of a = above_row s a (assembly_at s a) (coded_in s a)
 
   abbrev pub around_of : ℕ → ℕ → List ℕ
   around_of a = around_row s a (assembly_at s a)
 
-  pub above_all : map (above_in assemblies) (range_with_len 0 (length assemblies)) ≡ map (λ a. map (above_of a) (rows_in (assembly_at s a) TYPE_DEF)) (range_with_len 0 (length s))
+  pub above_all : map (above_in s assemblies) (range_with_len 0 (length assemblies)) ≡ map (λ a. map (above_of a) (rows_in (assembly_at s a) TYPE_DEF)) (range_with_len 0 (length s))
   above_all =
-      map_on [] (above_in assemblies) (λ a. map (above_of a) (rows_in (assembly_at s a) TYPE_DEF)) (length assemblies)
+      map_on [] (above_in s assemblies) (λ a. map (above_of a) (rows_in (assembly_at s a) TYPE_DEF)) (length assemblies)
       (λ a h.
-      ap (λ (x : Assembly). map (above_row x (coded_or (slice_get assemblies a))) (rows_in x TYPE_DEF)) (rows_are a)
-      ∙ ap (λ (c : Coded). map (above_row (assembly_at s a) c) (rows_in (assembly_at s a) TYPE_DEF)) (coded_at (slice_get assemblies a) a refl h))
+      ap (λ (x : Assembly). map (above_row s a x (coded_or (slice_get assemblies a))) (rows_in x TYPE_DEF)) (rows_are a)
+      ∙ ap (λ (c : Coded). map (above_row s a (assembly_at s a) c) (rows_in (assembly_at s a) TYPE_DEF)) (coded_at (slice_get assemblies a) a refl h))
       ∙ ap (λ (n : ℕ). map (λ a. map (above_of a) (rows_in (assembly_at s a) TYPE_DEF)) (range_with_len 0 n)) count_are
 
   pub around_all : map (around_in s assemblies) (range_with_len 0 (length assemblies)) ≡ map (λ a. map (around_of a) (rows_in (assembly_at s a) TYPE_DEF)) (range_with_len 0 (length s))

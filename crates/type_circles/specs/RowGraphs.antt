@@ -7,17 +7,20 @@ use Rattle.set_types.specs.SignatureTypes.{Coded}
 use Rattle.set_program.specs.declared.identity.TypeId.TheVariants as id
 use Rattle.set_program.specs.Environment.{number_of}
 use Rattle.set_program.specs.TypeNames.{enclosing}
-use Rattle.set_program.specs.TypeRules.{definition}
+use Rattle.set_program.specs.TypeRules.{leads_to, own_number}
 use Rattle.members.specs.declared.assembly_members.AssemblyMembers.{AssemblyMembers}
 use Rattle.members.specs.declared.set_type.SetType.{SetType}
 use Rattle.member_table.specs.Environments.{coded_ty_at, rows_or, coded_or}
 use Rattle.row_descriptions.specs.RowLists.{rows_with}
 
--- the base and the interfaces of a TypeDef row, by their definitions
-abbrev pub above_row : Assembly → Coded → ℕ → List ℕ
-above_row x c row =
-    definition (coded_ty_at c (cell x TYPE_DEF row 3))
-    ++ flat_map (λ i. definition (coded_ty_at c (cell x INTERFACE_IMPL i 1))) (rows_with x INTERFACE_IMPL 0 row)
+-- to which types the base and the interfaces of a TypeDef row lead; `own` is the number of its type
+abbrev pub above_own : List ℕ → Assembly → Coded → ℕ → List ℕ
+above_own own x c row =
+    leads_to own (coded_ty_at c (cell x TYPE_DEF row 3))
+    ++ flat_map (λ i. leads_to own (coded_ty_at c (cell x INTERFACE_IMPL i 1))) (rows_with x INTERFACE_IMPL 0 row)
+
+abbrev pub above_row : Assemblies → ℕ → Assembly → Coded → ℕ → List ℕ
+above_row s a x c row = above_own (own_number s a row) x c row
 
 -- the type around a TypeDef row
 abbrev pub around_row : Assemblies → ℕ → Assembly → ℕ → List ℕ
@@ -25,9 +28,9 @@ around_row s a x row = option_to_list (option_and_then (λ o. number_of s (id.Ro
 
 -- ---- of the rows of an assembly
 
-abbrev pub above_in : List AssemblyMembers → ℕ → List (List ℕ)
-above_in assemblies a =
-    map (above_row (rows_or (slice_get assemblies a)) (coded_or (slice_get assemblies a))) (rows_in (rows_or (slice_get assemblies a)) TYPE_DEF)
+abbrev pub above_in : Assemblies → List AssemblyMembers → ℕ → List (List ℕ)
+above_in s assemblies a =
+    map (above_row s a (rows_or (slice_get assemblies a)) (coded_or (slice_get assemblies a))) (rows_in (rows_or (slice_get assemblies a)) TYPE_DEF)
 
 abbrev pub around_in : Assemblies → List AssemblyMembers → ℕ → List (List ℕ)
 around_in s assemblies a = map (around_row s a (rows_or (slice_get assemblies a))) (rows_in (rows_or (slice_get assemblies a)) TYPE_DEF)

@@ -6,4 +6,4 @@ use Rattle.type_circles.specs.RowGraphs.{above_row}
 use Rattle.type_circles.proofs.above.above_rows.Given as goal
 
 abbrev pub invariant-loop-k : goal.invariant-loop-k
-invariant-loop-k l = l.lists ≡ map (above_row l.rows (coded_of l.coded)) (range_with_len 1 l.k)
+invariant-loop-k l = l.lists ≡ map (above_row l.types l.a l.rows (coded_of l.coded)) (range_with_len 1 l.k)

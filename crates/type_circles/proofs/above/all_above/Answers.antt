@@ -14,6 +14,6 @@ loop-a-preserved c =
     let ms : List AssemblyMembers = c.args.assemblies.now in
     let m : AssemblyMembers = c.index-assemblies-a.result in
     let e : slice_get ms c.loop-a.a ≡ Some m = slice_get_read ms (length ms) c.loop-a.a m refl c.loop-a-test.true c.index-assemblies-a.is in
-    list_push (above_in ms) c.loop-a.a c.loop-a.all.items c.push.new.self.items c.in_ok-above_rows.field-0 c.in_ok-push.ensures.items
-    (c.in_ok-above_rows.ensures ∙ ap (λ (o : Option AssemblyMembers). map (above_row (rows_or o) (coded_or o)) (rows_in (rows_or o) TYPE_DEF)) (sym e))
+    list_push (above_in c.args.types.now ms) c.loop-a.a c.loop-a.all.items c.push.new.self.items c.in_ok-above_rows.field-0 c.in_ok-push.ensures.items
+    (c.in_ok-above_rows.ensures ∙ ap (λ (o : Option AssemblyMembers). map (above_row c.args.types.now c.loop-a.a (rows_or o) (coded_or o)) (rows_in (rows_or o) TYPE_DEF)) (sym e))
     c.loop-a.invariant
