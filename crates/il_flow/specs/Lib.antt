@@ -10,3 +10,4 @@ pub mod Counts
 pub mod Lowest
 pub mod Meanings
 pub mod Methods
+pub mod Straight
