@@ -2,8 +2,8 @@
 ghost use Rattle.std.specs.Prelude.{◌≡◌, map, OnOk, IfOk};
 ghost use Rattle.body_tree.specs.Copies.{turned, AddsCopies, AddsHandlers, IsCopy};
 
-use crate::table::same_kind;
 use cil_model::{Block, Blocks, Handler, Handlers, Instr, Instrs, Operand};
+use region_tree::same_kind;
 use std::alloc::{AllocError, Global};
 
 /// An instruction of its own. A `ret` becomes a `leave` to the exit, where there is one.

@@ -5,20 +5,9 @@ ghost use Rattle.region_tree.specs.Trees.{body_of_tree, clauses, code, handler_p
 
 use crate::size::behind;
 use cil_base::U32s;
-use cil_model::{Block, Body, Handler, Region, RegionKind, Regions, Tree};
-use region_tree::code_of;
+use cil_model::{Block, Body, Handler, Region, Regions, Tree};
+use region_tree::{code_of, same_kind};
 use std::alloc::{AllocError, Global};
-
-pub(crate) fn same_kind(kind: &RegionKind) -> RegionKind
-    ensures { result ≡ kind.now }
-{
-    match kind {
-        RegionKind::Catch(token) => RegionKind::Catch(*token),
-        RegionKind::Filter(at) => RegionKind::Filter(*at),
-        RegionKind::Finally => RegionKind::Finally,
-        RegionKind::Fault => RegionKind::Fault,
-    }
-}
 
 /// Appends the clauses of a block that begins at a place, and answers where it ends.
 #[cycle(table)]

@@ -5,19 +5,9 @@ ghost use Rattle.tree_building.specs.Spans.{BeginsTry, EndsLonger};
 
 use crate::moving::{move_back, move_front, take_blocks};
 use crate::span::{Span, Spans};
-use cil_model::{Blocks, Handler, Handlers, Region, RegionKind};
+use cil_model::{Blocks, Handler, Handlers, Region};
+use region_tree::same_kind;
 use std::alloc::{AllocError, Global};
-
-fn same_kind(kind: &RegionKind) -> RegionKind
-    ensures { result ≡ kind.now }
-{
-    match kind {
-        RegionKind::Catch(token) => RegionKind::Catch(*token),
-        RegionKind::Filter(at) => RegionKind::Filter(*at),
-        RegionKind::Finally => RegionKind::Finally,
-        RegionKind::Fault => RegionKind::Fault,
-    }
-}
 
 /// Makes one span of the last ones, from the region's try on, with its first handler.
 fn begin_try(
