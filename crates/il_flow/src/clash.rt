@@ -9,7 +9,7 @@ ghost use Rattle.il_flow.specs.Starts.{Tells};
 use crate::effect::Effect;
 use crate::mark::{Mark, Marks};
 use cil_model::{Body, Instr, Operand};
-use il_opcodes::{Class, find_opcode};
+use il_opcodes::{Class, Opcode, find_opcode};
 
 fn class_goes_on(class: Class) -> bool
     ensures { result ≡ class_goes_on class }
@@ -25,14 +25,21 @@ fn class_goes_on(class: Class) -> bool
     }
 }
 
+/// Whether control goes on to the next instruction from one that was looked up, or isn't known.
+pub fn goes_on(found: Option<Opcode>) -> bool
+    ensures { result ≡ goes_on found }
+{
+    match found {
+        Some(opcode) => class_goes_on(opcode.class),
+        None => true,
+    }
+}
+
 /// Whether control goes on from an instruction to the next one.
 pub fn falls_through(op: u16) -> bool
     ensures { result ≡ goes_on (opcode_of op) }
 {
-    match find_opcode(op) {
-        Some(opcode) => class_goes_on(opcode.class),
-        None => true,
-    }
+    goes_on(find_opcode(op))
 }
 
 fn mark_differs(mark: Mark, height: u32) -> bool

@@ -2,6 +2,7 @@
 ghost use Rattle.std.specs.Prelude.{◌≡◌, ◌+◌, ◌≤◌, ◌<◌, ◌^◌, length};
 ghost use Rattle.std.specs.Option.{option_copied, option_map_or};
 ghost use Rattle.cil_model.specs.declared.ty.Ty.{out-Ty};
+ghost use Rattle.il_opcodes.specs.Opcodes.{opcode_of};
 ghost use Rattle.cil_semantics.specs.Types.{is_prim};
 ghost use Rattle.cil_semantics.specs.Lookups.{method_of, no_method};
 ghost use Rattle.cil_semantics.specs.Tokens.{meaning_of};
@@ -141,12 +142,25 @@ fn effect_by(program: &Program, own: &MethodDesc, i: &Instr, opcode: Opcode) -> 
     }
 }
 
+/// What an instruction that was looked up does to the height of the stack.
+pub(crate) fn found_effect(
+    program: &Program,
+    own: &MethodDesc,
+    i: &Instr,
+    found: Option<Opcode>,
+) -> Effect
+    requires { found ≡ opcode_of i.now.op }
+    ensures { result ≡ effect_of program.now own.now i.now }
+{
+    match found {
+        Some(opcode) => effect_by(program, own, i, opcode),
+        None => plain(0, 0),
+    }
+}
+
 /// What an instruction of a method does to the height of the stack.
 pub fn effect_in(program: &Program, own: &MethodDesc, i: &Instr) -> Effect
     ensures { result ≡ effect_of program.now own.now i.now }
 {
-    match find_opcode(i.op) {
-        Some(opcode) => effect_by(program, own, i, opcode),
-        None => plain(0, 0),
-    }
+    found_effect(program, own, i, find_opcode(i.op))
 }

@@ -18,7 +18,7 @@ mod search;
 
 pub use answer::{Answers, Heights};
 pub use boundary::boundaries;
-pub use clash::falls_through;
+pub use clash::{falls_through, goes_on};
 pub use effect::{Effect, arguments_of, effect_in, meaning_in};
 pub use height::{checked_heights, heights_in, offset_of};
 pub use laws::{

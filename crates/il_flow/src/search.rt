@@ -12,11 +12,12 @@ ghost use Rattle.il_flow.specs.Straight.{FindsMore};
 ghost use Rattle.il_flow.specs.Queue.{IsNext, IsQueued, count_left};
 ghost use Rattle.il_flow.specs.Starts.{Tells};
 
-use crate::clash::{falls_through, has_clash, height_left, lowest_clash};
-use crate::effect::{Effect, effect_in};
+use crate::clash::{falls_through, goes_on, has_clash, height_left, lowest_clash};
+use crate::effect::{Effect, found_effect};
 use crate::mark::{Mark, Marks};
 use crate::queue::{give_height, give_next, pop_place};
 use cil_model::{Body, Instr, MethodDesc, Operand, Program};
+use il_opcodes::{Opcode, find_opcode};
 use std::alloc::AllocError;
 use std::collections::BinaryHeap;
 
@@ -139,10 +140,11 @@ fn has_no_targets(operand: &Operand) -> bool
 }
 
 /// Whether control is found to go on to the next instruction alone.
-fn goes_straight(at: u32, i: &Instr) -> bool
+fn goes_straight(at: u32, i: &Instr, found: Option<Opcode>) -> bool
+    requires { found ≡ opcode_of i.now.op }
     ensures { result ≡ true → successors at i.now ≡ (at + 1) ∷ [] }
 {
-    has_no_targets(&i.operand) && falls_through(i.op)
+    has_no_targets(&i.operand) && goes_on(found)
 }
 
 /// Goes on from an instruction that waits to the next one, or answers where the rule breaks first. The
@@ -199,8 +201,9 @@ fn search_straight(
     let mut at = from;
     while let Some(height) = waiting_height(marks, at) {
         let i = instr_at(body, at);
-        let effect = effect_in(program, own, i);
-        if !goes_straight(at, i) {
+        let found = find_opcode(i.op);
+        let effect = found_effect(program, own, i, found);
+        if !goes_straight(at, i, found) {
             let fault = go_on(body, starts, marks, queue, effect, height, at, i)?;
             return Ok(fault);
         }

@@ -1,23 +1,29 @@
 // What control may do at the edges of regions.
 ghost use Rattle.std.specs.Prelude.{◌≡◌, ◌+◌, ◌<◌, ◌^◌, ◌&&◌, ◌||◌, not, ◌==◌, length};
 ghost use Rattle.std.specs.List.{list_any};
-ghost use Rattle.il_opcodes.specs.Opcodes.{class_of};
+ghost use Rattle.il_opcodes.specs.Opcodes.{class_of, class_or, opcode_of};
 ghost use Rattle.cil_semantics.specs.Unwind.{holds_place, in_try};
 ghost use Rattle.il_flow.specs.Successors.{successors, targets};
 ghost use Rattle.region_tree.specs.Rules.{breaks_region, crosses, goes_in, goes_out, in_handler, in_region, is_endfinally, is_leave, is_out_of_place, is_ret, is_rethrow, may_end, may_leave, may_rethrow};
 
 use cil_model::{Instr, Operand, Region, RegionKind};
 use il_flow::falls_through;
-use il_opcodes::{Class, find_opcode};
+use il_opcodes::{Class, Opcode, find_opcode};
 
-#[tactic(auto, unfolding(il_opcodes::specs::Opcodes::class_of))]
-pub(crate) fn class_of(op: u16) -> Class
-    ensures { result ≡ class_of op }
+pub(crate) fn class_or(found: Option<Opcode>) -> Class
+    ensures { result ≡ class_or found }
 {
-    match find_opcode(op) {
+    match found {
         Some(opcode) => opcode.class,
         None => Class::Unsupported,
     }
+}
+
+#[tactic(auto, unfolding(il_opcodes::specs::Opcodes::class_of))]
+fn class_of(op: u16) -> Class
+    ensures { result ≡ class_of op }
+{
+    class_or(find_opcode(op))
 }
 
 pub(crate) fn is_ret(class: Class) -> bool

@@ -1,19 +1,20 @@
 // A test that most bodies pass which break no rule on regions, in one pass.
 ghost use Rattle.std.specs.Prelude.{◌≡◌, ◌+◌, ◌≤◌, ◌<◌, ◌^◌, true, false, length, IfOk, slice_index_or};
 ghost use Rattle.std.specs.List.{list_any};
-ghost use Rattle.il_flow.specs.Successors.{successors, targets};
+ghost use Rattle.il_opcodes.specs.Opcodes.{class_of, opcode_of};
+ghost use Rattle.il_flow.specs.Successors.{goes_on, successors, targets};
 ghost use Rattle.region_tree.specs.Holders.{AreHolders};
 ghost use Rattle.region_tree.specs.Order.{AreInOrder, AreKnown, is_crossed, AreKept};
 ghost use Rattle.region_tree.specs.Rules.{breaks_region, crosses, goes_in, goes_out, in_region, is_out_of_place, may_end, may_leave, may_rethrow};
 
 use crate::edges::{
-    breaks_region, class_of, goes_in, goes_out, is_leave, is_out_of_place, is_ret, may_end,
+    breaks_region, class_or, goes_in, goes_out, is_leave, is_out_of_place, is_ret, may_end,
     may_leave, may_rethrow,
 };
 use crate::holders::holders_of;
 use cil_model::{Instr, Operand, Region};
-use il_flow::falls_through;
-use il_opcodes::Class;
+use il_flow::goes_on;
+use il_opcodes::{Class, Opcode, find_opcode};
 use std::alloc::{AllocError, Global};
 
 /// Whether the innermost region round a place is left by going to another one.
@@ -112,12 +113,14 @@ fn successors_cross_none(
     leaves: bool,
     at: u32,
     i: &Instr,
+    found: Option<Opcode>,
 ) -> bool
     requires known { AreKnown regions.now outer.now inner.now }
     requires small { at + 1 < 2 ^ 32 }
+    requires found { found ≡ opcode_of i.now.op }
     ensures { result ≡ true → list_any (is_crossed regions.now leaves at) (successors at i.now) ≡ false }
 {
-    if falls_through(i.op) && !crosses_none(regions, outer, inner, leaves, at, at + 1) {
+    if goes_on(found) && !crosses_none(regions, outer, inner, leaves, at, at + 1) {
         return false;
     }
     targets_cross_none(regions, outer, inner, leaves, at, &i.operand)
@@ -131,17 +134,25 @@ fn lies_in_none(regions: &[Region], outer: &[u32], at: u32) -> bool
     place < outer.len() && outer[place] == 0
 }
 
-#[tactic(auto, using(crate::proofs::PlainLaws::keeps_edges))]
-fn edges_are_kept(regions: &[Region], outer: &[u32], inner: &[u32], at: u32, i: &Instr) -> bool
+#[tactic(auto, using(crate::proofs::PlainLaws::keeps_edges), unfolding(il_opcodes::specs::Opcodes::class_of))]
+fn edges_are_kept(
+    regions: &[Region],
+    outer: &[u32],
+    inner: &[u32],
+    at: u32,
+    i: &Instr,
+    found: Option<Opcode>,
+) -> bool
     requires known { AreKnown regions.now outer.now inner.now }
     requires small { at + 1 < 2 ^ 32 }
+    requires found { found ≡ opcode_of i.now.op }
     ensures { result ≡ true → breaks_region regions.now at i.now ≡ false }
 {
-    let class = class_of(i.op);
+    let class = class_or(found);
     if is_ret(class) && !lies_in_none(regions, outer, at) {
         return false;
     }
-    successors_cross_none(regions, outer, inner, is_leave(class), at, i)
+    successors_cross_none(regions, outer, inner, is_leave(class), at, i, found)
 }
 
 fn holder_lets_leave(regions: &[Region], number: usize, at: u32) -> bool
@@ -162,10 +173,12 @@ fn holder_lets_rethrow(regions: &[Region], number: usize, at: u32) -> bool
     number != 0 && number <= regions.len() && may_rethrow(&regions[number - 1], at)
 }
 
-fn is_in_place(regions: &[Region], number: usize, at: u32, i: &Instr) -> bool
+#[tactic(auto, unfolding(il_opcodes::specs::Opcodes::class_of))]
+fn is_in_place(regions: &[Region], number: usize, at: u32, i: &Instr, found: Option<Opcode>) -> bool
+    requires { found ≡ opcode_of i.now.op }
     ensures { result ≡ true → is_out_of_place regions.now at i.now ≡ false }
 {
-    match class_of(i.op) {
+    match class_or(found) {
         Class::Leave => holder_lets_leave(regions, number, at),
         Class::EndFinally => holder_lets_end(regions, number, at),
         Class::Rethrow => holder_lets_rethrow(regions, number, at),
@@ -182,8 +195,9 @@ fn is_kept(regions: &[Region], outer: &[u32], inner: &[u32], at: u32, i: &Instr)
     ensures place { result ≡ true → is_out_of_place regions.now at i.now ≡ false }
 {
     let number = outer[at as usize] as usize;
-    (edges_are_kept(regions, outer, inner, at, i) || !breaks_region(regions, at, i))
-        && (is_in_place(regions, number, at, i) || !is_out_of_place(regions, at, i))
+    let found = find_opcode(i.op);
+    (edges_are_kept(regions, outer, inner, at, i, found) || !breaks_region(regions, at, i))
+        && (is_in_place(regions, number, at, i, found) || !is_out_of_place(regions, at, i))
 }
 
 /// Whether code breaks none of the rules on edges and on what stands where.

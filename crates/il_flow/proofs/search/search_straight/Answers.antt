@@ -19,7 +19,7 @@ returns-then-not-goes_straight-clause-left c =
 pub returns-then-not-goes_straight-clause-found : goal.returns-then-not-goes_straight-clause-found
 returns-then-not-goes_straight-clause-found c =
     let first = next_waits c.loop-height.marks (heap_items c.loop-height.queue) c.loop-height.at c.in-Some.height c.loop-height.invariant.next c.in-Some.ensures in
-    goes_more (effect_of c.args.program.now c.args.own.now) c.args.body.now c.args.marks.now c.loop-height.marks c.go_on.new.marks c.loop-height.at c.in-Some.height c.instr_at-i.result.now c.effect_in-effect.result c.in_ok-fault.fault first c.in-Some.ensures c.instr_at-i.ensures c.effect_in-effect.ensures c.in_ok-fault.ensures.fault c.in_ok-fault.ensures.passed c.loop-height.invariant.more
+    goes_more (effect_of c.args.program.now c.args.own.now) c.args.body.now c.args.marks.now c.loop-height.marks c.go_on.new.marks c.loop-height.at c.in-Some.height c.instr_at-i.result.now c.found_effect-effect.result c.in_ok-fault.fault first c.in-Some.ensures c.instr_at-i.ensures c.found_effect-effect.ensures c.in_ok-fault.ensures.fault c.in_ok-fault.ensures.passed c.loop-height.invariant.more
 
 pub go_next-requires-clause-small : goal.go_next-requires-clause-small
 go_next-requires-clause-small c =
@@ -34,7 +34,7 @@ go_next-requires-clause-within c = slice_get_within c.loop-height.marks c.loop-h
 pub returns-in-Some-go_next-clause-found : goal.returns-in-Some-go_next-clause-found
 returns-in-Some-go_next-clause-found c =
     let first = next_waits c.loop-height.marks (heap_items c.loop-height.queue) c.loop-height.at c.in-Some.height c.loop-height.invariant.next c.in-Some.ensures in
-    goes_more (effect_of c.args.program.now c.args.own.now) c.args.body.now c.args.marks.now c.loop-height.marks c.go_next.new.marks c.loop-height.at c.in-Some.height c.instr_at-i.result.now c.effect_in-effect.result (Some c.in-Some-go_next.place) first c.in-Some.ensures c.instr_at-i.ensures c.effect_in-effect.ensures (sym c.in-Some-go_next.is ∙ c.go_next.ensures.fault) (λ e. absurd cc) c.loop-height.invariant.more
+    goes_more (effect_of c.args.program.now c.args.own.now) c.args.body.now c.args.marks.now c.loop-height.marks c.go_next.new.marks c.loop-height.at c.in-Some.height c.instr_at-i.result.now c.found_effect-effect.result (Some c.in-Some-go_next.place) first c.in-Some.ensures c.instr_at-i.ensures c.found_effect-effect.ensures (sym c.in-Some-go_next.is ∙ c.go_next.ensures.fault) (λ e. absurd cc) c.loop-height.invariant.more
 
 pub overflow_add-at : goal.overflow_add-at
 overflow_add-at c =
@@ -57,7 +57,7 @@ loop-height-preserved c =
     let at = c.loop-height.at in
     let h = c.in-Some.height in
     let i = c.instr_at-i.result.now in
-    let e = c.effect_in-effect.result in
+    let e = c.found_effect-effect.result in
     let there = c.in-Some.ensures in
     let none : c.go_next.result ≡ None = c.in_default-go_next.is in
     let passed = c.go_next.ensures.passed none in
@@ -66,5 +66,5 @@ loop-height-preserved c =
       size = c.go_next.ensures.size none ∙ inv.size;
       next = rw passed (next_on ms queue at h _ inv.next there);
       left = rw passed (left_on ms queue at h _ (at + 1) _ there inv.left);
-      more = goes_more (effect_of c.args.program.now c.args.own.now) c.args.body.now c.args.marks.now ms c.go_next.new.marks at h i e None first there c.instr_at-i.ensures c.effect_in-effect.ensures (sym none ∙ c.go_next.ensures.fault) (λ z. passed ∙ passed_straight e ms at h i (c.goes_straight.ensures c.if-not-goes_straight.false)) inv.more;
+      more = goes_more (effect_of c.args.program.now c.args.own.now) c.args.body.now c.args.marks.now ms c.go_next.new.marks at h i e None first there c.instr_at-i.ensures c.found_effect-effect.ensures (sym none ∙ c.go_next.ensures.fault) (λ z. passed ∙ passed_straight e ms at h i (c.goes_straight.ensures c.if-not-goes_straight.false)) inv.more;
     }
