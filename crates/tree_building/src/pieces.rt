@@ -6,12 +6,13 @@ ghost use Rattle.tree_building.specs.Building.{IsBuilt};
 use crate::marks::{marks_of, next_mark};
 use crate::span::{Span, Spans};
 use cil_model::{Block, Blocks, Handlers, Instr, Instrs, Region};
+use sqlite_items::Items;
 use std::alloc::{AllocError, Global};
 
 fn copied(alloc: Global, instrs: &[Instr]) -> Result<Instrs, AllocError>
     ensures { IfOk result (λ copies. copies ≡ instrs.now) }
 {
-    let mut copies = Instrs::new(alloc);
+    let mut copies = Items::from_vec(Vec::with_capacity(alloc, instrs.len())?);
     for i in instrs {
         copies.push(i.copied(alloc)?)?;
     }
