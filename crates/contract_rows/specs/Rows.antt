@@ -101,22 +101,23 @@ legacy_block = static_code (ldarg 0 ∷ int 0 ∷ jump 0x3C 5 ∷ new_exception 
 abbrev pub EndContractBlockIsNoClause : Type 0
 EndContractBlockIsNoClause = own_contract legacy_block ≡ record { lead_end = 5; rest_from = 6; clauses = []; asserts = [] }
 
--- ---- Requires(x > 0); Requires<ArgumentException>(x > 1); EnsuresOnThrow<ArgumentException>(x > 2)
+-- ---- Requires(x > 0); Requires<ArgumentException>(x > 1); Requires(x > 3); EnsuresOnThrow<ArgumentException>(x > 2)
 
 abbrev pub several : Code
 several =
     static_code
-    (ldarg 0 ∷ int 0 ∷ bare 0xFE02 ∷ requires ∷ ldarg 0 ∷ int 1 ∷ bare 0xFE02 ∷ requires_of ∷ ldarg 0 ∷ int 2 ∷ bare 0xFE02 ∷ on_throw ∷ ldarg 0 ∷ ret ∷ []) []
+    (ldarg 0 ∷ int 0 ∷ bare 0xFE02 ∷ requires ∷ ldarg 0 ∷ int 1 ∷ bare 0xFE02 ∷ requires_of ∷ ldarg 0 ∷ int 3 ∷ bare 0xFE02 ∷ requires ∷ ldarg 0 ∷ int 2 ∷ bare 0xFE02 ∷ on_throw ∷ ldarg 0 ∷ ret ∷ []) []
 
 abbrev pub LabelsCountRequiresTogether : Type 0
 LabelsCountRequiresTogether =
     own_contract several
     ≡ record {
       lead_end = 0;
-      rest_from = 12;
+      rest_from = 16;
       clauses =
           clause kind.Requires (codes "T::M/requires/0") (ldarg 0 ∷ int 0 ∷ bare 0xFE02 ∷ requires ∷ [])
           ∷ record (clause kind.RequiresOf (codes "T::M/requires/1") (ldarg 0 ∷ int 1 ∷ bare 0xFE02 ∷ requires_of ∷ [])) { exception = Some (ref 0 (member_token 3) 0) }
+          ∷ clause kind.Requires (codes "T::M/requires/2") (ldarg 0 ∷ int 3 ∷ bare 0xFE02 ∷ requires ∷ [])
           ∷ record (clause kind.Throws (codes "T::M/throws/0") (ldarg 0 ∷ int 2 ∷ bare 0xFE02 ∷ on_throw ∷ [])) { exception = Some (ref 0 (member_token 5) 0) }
           ∷ [];
       asserts = [];
@@ -165,10 +166,10 @@ EachClauseHasItsOwnLocals =
       asserts = [];
     }
 
--- ---- an Assert in a segment and one in the rest
+-- ---- an Assert in a segment, one in its clause's argument, and one in the rest
 
 abbrev pub asserted : Code
-asserted = static_code (ldarg 0 ∷ assert_call ∷ ldarg 0 ∷ requires ∷ ldarg 0 ∷ assert_call ∷ ldarg 0 ∷ ret ∷ []) []
+asserted = static_code (ldarg 0 ∷ assert_call ∷ ldarg 0 ∷ ldarg 0 ∷ assert_call ∷ requires ∷ ldarg 0 ∷ assert_call ∷ ldarg 0 ∷ ret ∷ []) []
 
 abbrev pub assert_clause : Name → Clause
 assert_clause label = clause kind.Assert label (assert_call ∷ [])
@@ -178,9 +179,9 @@ AssertsAreNumberedOverTheBody =
     own_contract asserted
     ≡ record {
       lead_end = 0;
-      rest_from = 4;
-      clauses = record (clause kind.Requires (codes "T::M/requires/0") (ldarg 0 ∷ assert_call ∷ ldarg 0 ∷ requires ∷ [])) { inline = codes "T::M/assert/0" ∷ [] } ∷ [];
-      asserts = assert_clause (codes "T::M/assert/0") ∷ assert_clause (codes "T::M/assert/1") ∷ [];
+      rest_from = 6;
+      clauses = record (clause kind.Requires (codes "T::M/requires/0") (ldarg 0 ∷ assert_call ∷ ldarg 0 ∷ ldarg 0 ∷ assert_call ∷ requires ∷ [])) { inline = codes "T::M/assert/0" ∷ codes "T::M/assert/1" ∷ [] } ∷ [];
+      asserts = assert_clause (codes "T::M/assert/0") ∷ assert_clause (codes "T::M/assert/1") ∷ assert_clause (codes "T::M/assert/2") ∷ [];
     }
 
 -- ---- a closure over x, which the clause and the rest read
@@ -275,21 +276,24 @@ BadSegmentsBreak2 = map first_broken breaking_2 ≡ Some (C2, 0) ∷ Some (C2, 0
 
 abbrev pub breaking_3 : List Code
 breaking_3 =
-    -- Result in a precondition, in a method without a result, and in the rest
+    -- Result in a precondition, in EnsuresOnThrow, in a method without a result, and in the rest
     static_code (result ∷ requires ∷ ldarg 0 ∷ ret ∷ []) []
+    ∷ static_code (result ∷ on_throw ∷ ldarg 0 ∷ ret ∷ []) []
     ∷ void_code (result ∷ ensures_call ∷ ret ∷ []) []
     ∷ static_code (ldarg 0 ∷ ensures_call ∷ result ∷ ret ∷ []) []
-    -- OldValue and ValueAtReturn in a precondition, OldValue in the rest
+    -- OldValue and ValueAtReturn in a precondition, and in the rest
     ∷ static_code (ldarg 0 ∷ old_value ∷ requires ∷ ldarg 0 ∷ ret ∷ []) []
     ∷ static_code (ldarg 0 ∷ value_at_return ∷ requires ∷ ldarg 0 ∷ ret ∷ []) []
     ∷ void_code (ldarg 0 ∷ requires ∷ int 1 ∷ old_value ∷ bare 0x26 ∷ ret ∷ []) []
+    ∷ void_code (ldarg 0 ∷ requires ∷ int 1 ∷ value_at_return ∷ bare 0x26 ∷ ret ∷ []) []
     -- Invariant in another method
     ∷ static_code (ldarg 0 ∷ invariant_call ∷ ldarg 0 ∷ ret ∷ []) []
     ∷ []
 
 abbrev pub StrayCallsBreak3 : Type 0
 StrayCallsBreak3 =
-    map first_broken breaking_3 ≡ Some (C3, 0) ∷ Some (C3, 0) ∷ Some (C3, 2) ∷ Some (C3, 1) ∷ Some (C3, 1) ∷ Some (C3, 3) ∷ Some (C3, 1) ∷ []
+    map first_broken breaking_3
+    ≡ Some (C3, 0) ∷ Some (C3, 0) ∷ Some (C3, 0) ∷ Some (C3, 2) ∷ Some (C3, 1) ∷ Some (C3, 1) ∷ Some (C3, 3) ∷ Some (C3, 3) ∷ Some (C3, 1) ∷ []
 
 abbrev pub breaking_4 : List Code
 breaking_4 =
