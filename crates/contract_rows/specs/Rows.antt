@@ -245,15 +245,16 @@ generated_instrs = int 1 ∷ requires ∷ ret ∷ []
 
 abbrev pub breaking_1 : List Code
 breaking_1 =
-    -- the contract block is crossed by a branch ahead, and by one back
+    -- the contract block is crossed by a branch ahead, by one back, and by one back to the call
     static_code (ldarg 0 ∷ jump 0x3A 4 ∷ ldarg 0 ∷ requires ∷ ldarg 0 ∷ ret ∷ []) []
     ∷ static_code (ldarg 0 ∷ requires ∷ ldarg 0 ∷ jump 0x3A 0 ∷ ldarg 0 ∷ ret ∷ []) []
+    ∷ static_code (ldarg 0 ∷ requires ∷ ldarg 0 ∷ ldarg 0 ∷ jump 0x3A 1 ∷ ret ∷ []) []
     -- a compiler made the method
     ∷ code (sample (codes "T") (record (method 0 (codes "M") [] void_ty (body generated_instrs [] None)) { generated = true })) generated_instrs []
     ∷ []
 
 abbrev pub CrossedCallsBreak1 : Type 0
-CrossedCallsBreak1 = map first_broken breaking_1 ≡ Some (C1, 3) ∷ Some (C1, 1) ∷ Some (C1, 1) ∷ []
+CrossedCallsBreak1 = map first_broken breaking_1 ≡ Some (C1, 3) ∷ Some (C1, 1) ∷ Some (C1, 1) ∷ Some (C1, 1) ∷ []
 
 abbrev pub breaking_2 : List Code
 breaking_2 =
