@@ -5,3 +5,4 @@ pub mod PlaceLaws
 pub mod NumberingLaws
 pub mod NotedLaws
 pub mod KeptLaws
+pub mod KindLaws

@@ -1,10 +1,11 @@
 // The outside members that the rows of a set name, each once, with the first row that names it
 // (ECMA-335, II.22.25).
-ghost use Rattle.std.specs.Prelude.{◌≡◌, ◌<◌, ◌^◌, ◌-◌, ◌++◌, ◌∷◌, [], List, length, slice_get, map, flat_map, IfOk, Some};
+ghost use Rattle.std.specs.Prelude.{◌≡◌, ◌<◌, ◌^◌, ◌-◌, ◌++◌, ◌∷◌, [], List, length, slice_get, map, flat_map, false, IfOk, None, Some};
 ghost use Rattle.std.specs.List.{range_with_len};
 ghost use Rattle.set_rows.specs.Sets.{Assemblies, count_in};
 ghost use Rattle.set_program.specs.Numbering.{Cell, walk};
 ghost use Rattle.members.specs.OutsideMembers.{added_member};
+ghost use Rattle.members.specs.declared.set_type.SetType.{SetType};
 ghost use Rattle.member_table.specs.Environments.{environment_in, rows_or, AreOf};
 ghost use Rattle.member_table.specs.Numbers.{added_if, outside_of, outside_in, references_in, outside_members, outside_row};
 ghost use Rattle.member_numbers.specs.Noted.{AreNoted, added_row, row_if};
@@ -12,6 +13,7 @@ ghost use Rattle.member_numbers.specs.Noted.{AreNoted, added_row, row_if};
 use cil_base::tables::MEMBER_REF;
 use member_table::{MemberTable, Named, member_in};
 use members::{AssemblyMembers, Outside, OutsideMember, SetType};
+use set_signatures::is_field_blob;
 use sqlite_items::at;
 use std::alloc::{AllocError, Global};
 
@@ -79,6 +81,34 @@ fn with_named(
     }
 }
 
+/// Whether a MemberRef row may name an outside field, or method: its signature is one's.
+fn may_name(assemblies: &[AssemblyMembers<'_>], is_field: bool, a: u32, row: u32) -> bool
+    ensures { (types : List SetType) → result ≡ false → outside_in (environment_in assemblies.now types) is_field (a, row) ≡ None }
+{
+    match at(assemblies, a as usize) {
+        None => true,
+        Some(assembly) => is_field == is_field_blob(assembly.rows.blob(MEMBER_REF, row, 2)),
+    }
+}
+
+/// The outside field, or method, that a MemberRef row names.
+fn named_by(
+    alloc: Global,
+    assemblies: &[AssemblyMembers<'_>],
+    types: &[SetType],
+    is_field: bool,
+    a: u32,
+    row: u32,
+) -> Result<Option<OutsideMember>, AllocError>
+    ensures { IfOk result (λ member. member ≡ outside_in (environment_in assemblies.now types.now) is_field (a, row)) }
+{
+    if !may_name(assemblies, is_field, a, row) {
+        return Ok(None);
+    }
+    let named = member_in(alloc, assemblies, types, a, row)?;
+    Ok(outside_of(is_field, named))
+}
+
 /// Notes what a MemberRef row names.
 fn note_row(
     alloc: Global,
@@ -91,8 +121,8 @@ fn note_row(
 ) -> Result<Noted, AllocError>
     ensures { (cells : List Cell) → AreNoted (outside_in (environment_in assemblies.now types.now) is_field) cells noted.outside noted.rows.items → IfOk result (λ n. AreNoted (outside_in (environment_in assemblies.now types.now) is_field) (cells ++ (a, row) ∷ []) n.outside n.rows.items) }
 {
-    let named = member_in(alloc, assemblies, types, a, row)?;
-    with_named(alloc, noted, outside_of(is_field, named), a, row)
+    let member = named_by(alloc, assemblies, types, is_field, a, row)?;
+    with_named(alloc, noted, member, a, row)
 }
 
 fn reference_count(assemblies: &[AssemblyMembers<'_>], a: u32) -> u32

@@ -1,10 +1,9 @@
-use Rattle.std.proofs.Common.{◌∙◌, ap}
 use Rattle.member_table.specs.Environments.{environment_in}
-use Rattle.member_table.specs.Numbers.{outside_of, outside_in}
+use Rattle.member_table.specs.Numbers.{outside_in}
 use Rattle.member_numbers.proofs.NotedLaws.{named_noted}
 use Rattle.member_numbers.proofs.noting.note_row.Goals as goal
 
 pub returns : goal.returns
 returns c = λ cells h.
-    named_noted (outside_in (environment_in c.args.assemblies.now c.args.types.now) c.args.is_field) cells (c.args.a, c.args.row) c.args.noted.outside c.args.noted.rows.items c.outside_of.result c.with_named.result h
-    (c.outside_of.ensures ∙ ap (outside_of c.args.is_field) c.in_ok-named.ensures) c.with_named.ensures.outside c.with_named.ensures.rows
+    named_noted (outside_in (environment_in c.args.assemblies.now c.args.types.now) c.args.is_field) cells (c.args.a, c.args.row) c.args.noted.outside c.args.noted.rows.items _ c.with_named.result h
+    c.in_ok-member.ensures c.with_named.ensures.outside c.with_named.ensures.rows
