@@ -46,6 +46,23 @@ fn a_circle_of_bases_goes_through_an_instance(rt: HostRuntime) {
 }
 
 #[test]
+fn no_base_and_no_interface_is_a_type_parameter(rt: HostRuntime) {
+    let alloc = rt.alloc();
+    // 6 names the type parameter 0 of U, row 3, and 10 one of a method.
+    const UNDER_PARAMETER: &str = "TypeDef 0, U, -, 6, 1, 1";
+    const UNDER_ONE_OF_A_METHOD: &str = "TypeDef 0, U, -, 10, 1, 1";
+    const PARAMETERS: &str = "TypeSpec 13 00\nTypeSpec 1E 00\nGenericParam 0, 0, 6, X";
+    const IS_PARAMETER: &str = "InterfaceImpl 3, 6";
+    const IS_ONE_OF_A_METHOD: &str = "InterfaceImpl 3, 10";
+    const AT_U: &str = "refused: N3 assembly 0 table 02 row 3 at 0\n";
+    assert!(rt; lists(alloc, &[A, T, UNDER_PARAMETER, PARAMETERS], AT_U));
+    assert!(rt; lists(alloc, &[A, T, UNDER_ONE_OF_A_METHOD, PARAMETERS], AT_U));
+    assert!(rt; lists(alloc, &[A, T, U, PARAMETERS, IS_PARAMETER], AT_U));
+    assert!(rt; lists(alloc, &[A, T, U, PARAMETERS, IS_ONE_OF_A_METHOD], AT_U));
+    assert!(rt; lists(alloc, &[A, T, U_UNDER_T, PARAMETERS], BOTH));
+}
+
+#[test]
 fn nestings_make_no_circle(rt: HostRuntime) {
     let alloc = rt.alloc();
     const T_IN_U: &str = "NestedClass 2, 3";
