@@ -3,3 +3,4 @@ pub mod ListLaws
 pub mod RankLaws
 pub mod StepLaws
 pub mod SearchLaws
+pub mod DepthLaws
