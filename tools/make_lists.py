@@ -11,6 +11,9 @@ It wants mcs (Debian: mono-mcs). KIND is what there are N of:
   nested     types, each within the one before
   references fields whose types are so many nested types of another library, which is OUT.lib.dll
   long-name  methods of one name of 500 letters, one to a type
+  requires   Requires of one method
+  clause     terms of one Requires
+  branches   if statements before an Assert
 """
 import os
 import subprocess
@@ -75,11 +78,29 @@ def long_name(count):
         yield f"public class C{k} {{ public static void {name}(int a) {{ }} }}"
 
 
+CONTRACTED = "public class C {{ public static int M(int a, int b) {{ {} return a; }} }}"
+
+
+def requires(count):
+    yield "using System.Diagnostics.Contracts;"
+    yield CONTRACTED.format("\n".join(f"Contract.Requires(a > {k});" for k in range(count)))
+
+
+def clause(count):
+    yield "using System.Diagnostics.Contracts;"
+    yield CONTRACTED.format("Contract.Requires(a > (" + " ^ ".join(f"(b + {k})" for k in range(count)) + "));")
+
+
+def branches(count):
+    yield "using System.Diagnostics.Contracts;"
+    yield CONTRACTED.format("\n".join(f"if (a > {k}) b++;" for k in range(count)) + "Contract.Assert(a > b);")
+
+
 def compile_library(out, lines, *more):
     with tempfile.NamedTemporaryFile("w", suffix=".cs") as source:
         source.write("\n".join(lines))
         source.flush()
-        subprocess.run(["mcs", "-target:library", "-nowarn:0169,0649", f"-out:{out}", *more, source.name], check=True)
+        subprocess.run(["mcs", "-target:library", "-d:CONTRACTS_FULL", "-nowarn:0169,0649", f"-out:{out}", *more, source.name], check=True)
 
 
 def main():
@@ -93,6 +114,9 @@ def main():
         "nested": nested,
         "references": references,
         "long-name": long_name,
+        "requires": requires,
+        "clause": clause,
+        "branches": branches,
     }[kind]
     more = []
     if kind == "references":
