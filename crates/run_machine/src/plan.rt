@@ -60,6 +60,13 @@ impl<'a> Plan<'a> {
         self.pieces(group).get(number)
     }
 
+    /// The kept clauses of the method, of all groups.
+    pub fn clauses(&self) -> &[Piece<'a>]
+        ensures { result.now ≡ self.now.clauses }
+    {
+        self.clauses.as_slice()
+    }
+
     /// The effective contract.
     pub fn effective(&self) -> &'a Effective
         ensures { result.now ≡ self.now.effective }
