@@ -1,0 +1,4 @@
+use Rattle.run_unwind.proofs.entering.begin_catch.Goals as goal
+
+pub returns : goal.returns
+returns c fs w = rw (c.in_ok-push.ensures.ok, c.clear.ensures) at (c.in_ok-begin_handler.ensures fs w)
