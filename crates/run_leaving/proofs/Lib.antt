@@ -1,0 +1,2 @@
+pub mod HandlingLaws
+pub mod LeaveLaws
