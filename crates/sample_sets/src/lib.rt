@@ -9,6 +9,8 @@
 
 mod cells;
 mod commands;
+mod programs;
 mod samples;
 
 pub use commands::{lists, rewrites};
+pub use programs::{body_is, is_sub, is_visible_method, sources_are};

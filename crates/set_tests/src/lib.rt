@@ -16,4 +16,6 @@ mod owned_members;
 #[cfg(test)]
 mod signatures;
 #[cfg(test)]
+mod sources;
+#[cfg(test)]
 mod types;
