@@ -160,3 +160,39 @@ fn signatures_of_a_set_are_refused(rt: HostRuntime) -> Result<(), Fault> {
     }
     Ok(())
 }
+
+/// Whether `list` of four files of 64 MiB and one of this name is refused with this text.
+fn large_set_answers(
+    alloc: Global,
+    store: &mut MemStore,
+    fifth: &str,
+    want: &[u8],
+) -> Result<bool, AllocError> {
+    let mut out = MemSink::new(alloc, 100, U32s::new(alloc))?;
+    let names = ["list", "a.dll", "a.dll", "a.dll", "a.dll", fifth];
+    let words = words_from(alloc, &names)?;
+    let status = run_words(alloc, words.as_slice(), store, &mut out);
+    Ok(status == 1 && out.taken() == want)
+}
+
+/// Whether the fifth file is read where it is empty, and is too much where it has a byte.
+fn large_sets_answer(alloc: Global) -> Result<bool, AllocError> {
+    let zeros = vec![in alloc; 0u8; 0x400_0000]?;
+    let mut store = MemStore::new(alloc, U32s::new(alloc));
+    store.put_file("a.dll", zeros.as_slice())?;
+    store.put_file("empty", b"")?;
+    store.put_file("one", b"M")?;
+    let no_image = b"refused: P1 assembly 0 table 00 row 0 at 0\n".as_slice();
+    let sum = b"refused: L2 assembly 0 table 00 row 0 at 268435457\n".as_slice();
+    Ok(
+        large_set_answers(alloc, &mut store, "empty", no_image)?
+            && large_set_answers(alloc, &mut store, "one", sum)?,
+    )
+}
+
+#[test]
+fn a_set_has_at_most_256_mebibytes(rt: HostRuntime) -> Result<(), Fault> {
+    let holds = large_sets_answer(rt.alloc())?;
+    assert!(rt; holds);
+    Ok(())
+}
