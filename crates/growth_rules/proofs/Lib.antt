@@ -10,3 +10,7 @@ pub mod SoundLaws
 pub mod ReadLaws
 pub mod NewTypeLaws
 pub mod CheckedLaws
+pub mod OutsideRankLaws
+pub mod HeightLaws
+pub mod AboveLaws
+pub mod RankedLaws

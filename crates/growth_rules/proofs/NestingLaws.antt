@@ -26,14 +26,14 @@ use Rattle.growth_rules.proofs.IndexLaws.{row_is}
 
 -- ---- the place of a number
 
-record IsSlot {A : Type 0} (test : A → Bool) (xs : List A) (i k : ℕ) : Type 0 where
-  at : ℕ
-  value : A
-  place : k ≡ i + at
-  there : slice_get xs at ≡ Some value
-  passes : test value ≡ true
+pub record IsSlot {A : Type 0} (test : A → Bool) (xs : List A) (i k : ℕ) : Type 0 where
+  pub at : ℕ
+  pub value : A
+  pub place : k ≡ i + at
+  pub there : slice_get xs at ≡ Some value
+  pub passes : test value ≡ true
 
-slot_of : {A : Type 0} (test : A → Bool) (xs : List A) (i k : ℕ) → position_from test i xs ≡ Some k → IsSlot test xs i k
+pub slot_of : {A : Type 0} (test : A → Bool) (xs : List A) (i k : ℕ) → position_from test i xs ≡ Some k → IsSlot test xs i k
 slot_of test [] i k e = absurd cc
 slot_of {A} test (x ∷ xs) i k e = go (test x) refl (slot_of test xs (i + 1) k) e
   where
@@ -44,7 +44,7 @@ slot_of {A} test (x ∷ xs) i k e = go (test x) refl (slot_of test xs (i + 1) k)
         this a b h = ap (λ (o : Option ℕ). Rattle.std.specs.Prelude.unwrap_or o a) h
     go false f later g = let s : IsSlot test xs (i + 1) k = later g in record { at = suc s.at; value = s.value; place = omega (arith, s.place); there = s.there; passes = s.passes }
 
-same_row : (a r : ℕ) (id : TypeId) → same_id (Row a r) id ≡ true → id ≡ Row a r
+pub same_row : (a r : ℕ) (id : TypeId) → same_id (Row a r) id ≡ true → id ≡ Row a r
 same_row a r (Outside name) e = absurd cc
 same_row a r (Row b q) e = go (a == b) refl e
   where
@@ -52,7 +52,7 @@ same_row a r (Row b q) e = go (a == b) refl e
     go true f g = ap (λ (c : ℕ). Row c q) (sym (eqb-true a b f)) ∙ ap (Row a) (sym (eqb-true r q g))
     go false f g = absurd cc
 
-row_at : (s : Assemblies) (a r k : ℕ) → number_of s (Row a r) ≡ Some k → row_of_number s k ≡ Some (a, r)
+pub row_at : (s : Assemblies) (a r k : ℕ) → number_of s (Row a r) ≡ Some k → row_of_number s k ≡ Some (a, r)
 row_at s a r k e =
     let slot : IsSlot (same_id (Row a r)) (types_of s) 0 k = slot_of (same_id (Row a r)) (types_of s) 0 k e in
     let at : k ≡ slot.at = omega (arith, slot.place) in

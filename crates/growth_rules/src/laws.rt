@@ -72,6 +72,11 @@ pub fn sound_target_has_attributes()
     ensures { (x : Assembly) (xs : List Assembly) → IsSound (x ∷ xs) → HasAttributes x }
 {}
 
+/// No type of the program of a set is above itself, by bases and interfaces together (N3).
+pub fn sound_set_is_ranked()
+    ensures { (x : Assembly) (xs : List Assembly) → IsSound (x ∷ xs) → Ranked (program_of (x ∷ xs)) }
+{}
+
 /// The program of a set to whose TARGET rows are appended has the old descriptions at the old numbers,
 /// but for bodies and access, and old tokens mean the same.
 pub fn sound_set_keeps_program()
@@ -80,5 +85,5 @@ pub fn sound_set_keeps_program()
 
 /// It extends the program of the set.
 pub fn sound_set_extends()
-    ensures { (x : Assembly) (xs : List Assembly) → IsSound (x ∷ xs) → (x' : Assembly) → IsAppended x x' xs → Ranked (program_of (x ∷ xs)) → NamesOwn (program_of (x ∷ xs)) → Extends (program_of (x ∷ xs)) (program_of (x' ∷ xs)) }
+    ensures { (x : Assembly) (xs : List Assembly) → IsSound (x ∷ xs) → (x' : Assembly) → IsAppended x x' xs → NamesOwn (program_of (x ∷ xs)) → Extends (program_of (x ∷ xs)) (program_of (x' ∷ xs)) }
 {}
