@@ -28,8 +28,10 @@ fn is_told(told: Option<(Rule, u32)>, rule: Rule, at: u32) -> bool {
     matches!(told, Some((r, k)) if r == rule && k == at)
 }
 
-/// Twelve nops and a ret, with catches.
-const PLAIN: [u8; 13] = [0, 0, 0, 0, 0, 0, 0, 0, 0, 0, 0, 0, 0x2A];
+/// Twenty nops and a ret, with catches.
+const PLAIN: [u8; 21] = [
+    0, 0, 0, 0, 0, 0, 0, 0, 0, 0, 0, 0, 0, 0, 0, 0, 0, 0, 0, 0, 0x2A,
+];
 
 fn lie_badly(alloc: Global, rows: &[[u32; 4]], at: u32) -> bool {
     is_told(fault_in(alloc, &PLAIN, false, rows), Rule::X2, at)
@@ -43,7 +45,7 @@ fn lie_well(alloc: Global, rows: &[[u32; 4]], at: u32) -> bool {
 #[test]
 fn regions_lie_in_one_another_or_apart(rt: HostRuntime) {
     let alloc = rt.alloc();
-    let outer_before_inner = lie_badly(alloc, &[[0, 6, 6, 10], [2, 3, 3, 5]], 2);
+    let outer_before_inner = lie_badly(alloc, &[[0, 10, 10, 20], [2, 6, 6, 9]], 2);
     let crossing = lie_badly(alloc, &[[0, 4, 4, 6], [1, 6, 6, 8]], 1);
     let behind_a_gap = lie_badly(alloc, &[[1, 4, 5, 8]], 1);
     let second_handler_behind_a_gap = lie_badly(alloc, &[[1, 4, 4, 6], [1, 4, 7, 8]], 1);
@@ -139,6 +141,35 @@ fn ret_and_branches_stay_in_their_part(rt: HostRuntime) {
 }
 
 #[test]
+fn handlers_are_left_by_leave_alone(rt: HostRuntime) {
+    let alloc = rt.alloc();
+    let rows = [[0, 1, 1, 3]];
+    let branch_out = fault_in(alloc, &[0xDE, 3, 0x26, 0x2B, 0, 0x2A], false, &rows);
+    let fall_out = fault_in(alloc, &[0xDE, 2, 0x26, 0, 0x2A], false, &rows);
+    let leave = fault_in(alloc, &[0xDE, 3, 0x26, 0xDE, 0, 0x2A], false, &rows);
+    assert!(rt; is_told(branch_out, Rule::X3, 3) && is_told(fall_out, Rule::X3, 3));
+    assert!(rt; leave.is_none());
+}
+
+/// A try with a switch whose one case goes so far, before a catch and a ret.
+fn switch_told(alloc: Global, distance: u8) -> Option<(Rule, u32)> {
+    let code = [
+        0x16, 0x45, 1, 0, 0, 0, distance, 0, 0, 0, 0xDE, 3, 0x26, 0xDE, 0, 0x2A,
+    ];
+    fault_in(alloc, &code, false, &[[0, 3, 3, 5]])
+}
+
+#[test]
+fn each_case_of_a_switch_stays_in_its_part(rt: HostRuntime) {
+    let alloc = rt.alloc();
+    let stays = switch_told(alloc, 0);
+    let into_the_handler = switch_told(alloc, 2);
+    let out = switch_told(alloc, 5);
+    assert!(rt; stays.is_none());
+    assert!(rt; is_told(into_the_handler, Rule::X3, 1) && is_told(out, Rule::X3, 1));
+}
+
+#[test]
 fn parts_are_entered_at_a_try_alone(rt: HostRuntime) {
     let alloc = rt.alloc();
     let rows = [[1, 3, 3, 5]];
@@ -228,4 +259,13 @@ fn ends_of_blocks_stand_in_their_blocks(rt: HostRuntime) {
     assert!(rt; is_told(leave_outside, Rule::X4, 1) && is_told(end_outside, Rule::X4, 1));
     assert!(rt; is_told(rethrow_outside, Rule::X4, 1) && is_told(leave_in_a_finally, Rule::X4, 2));
     assert!(rt; end_in_a_finally.is_none() && is_told(end_in_a_catch, Rule::X4, 2));
+}
+
+#[test]
+fn only_a_catch_throws_again(rt: HostRuntime) {
+    let alloc = rt.alloc();
+    let rows = [[0, 1, 1, 2]];
+    let in_a_catch = fault_in(alloc, &[0xDE, 2, 0xFE, 0x1A, 0x2A], false, &rows);
+    let in_a_finally = fault_in(alloc, &[0xDE, 2, 0xFE, 0x1A, 0x2A], true, &rows);
+    assert!(rt; in_a_catch.is_none() && is_told(in_a_finally, Rule::X4, 2));
 }
