@@ -1,7 +1,7 @@
 -- Own contracts of small methods, computed.
 use Rattle.std.proofs.Common.{refl}
 use Rattle.contract_rows.specs.Everything.{everything}
-use Rattle.contract_rows.specs.Rows.{AccountConstructorHasALeadIn, AccountTakeHasTwoClauses, AccountInvariantIsAClause, AccountBreaksNoRule, IfThrowIsLeadIn, EndContractBlockIsNoClause, LabelsCountRequiresTogether, MessageIsAStaticField, EachClauseHasItsOwnLocals, AssertsAreNumberedOverTheBody, ClauseSetsUpItsClosure, ThoseBreakNoRule, CrossedCallsBreak1, BadSegmentsBreak2, StrayCallsBreak3, BadOldValuesBreak4, ThrowInASegmentBreaks5, SharedLocalsBreak6, WrongTypesBreak7, InnerClosureIsSetUpFirst}
+use Rattle.contract_rows.specs.Rows.{AccountConstructorHasALeadIn, AccountTakeHasTwoClauses, AccountInvariantIsAClause, AccountBreaksNoRule, IfThrowIsLeadIn, EndContractBlockIsNoClause, LabelsCountRequiresTogether, MessageIsAStaticField, EachClauseHasItsOwnLocals, AssertsAreNumberedOverTheBody, ClauseSetsUpItsClosure, ThoseBreakNoRule, CrossedCallsBreak1, BadSegmentsBreak2, StrayCallsBreak3, BadOldValuesBreak4, ThrowInASegmentBreaks5, SharedLocalsBreak6, WrongTypesBreak7, WrongTypesOfEnsuresOnThrowBreak7, ExceptionsThatCantBeMadeBreak7, CallInAHandlerBreaks2And1, InnerClosureIsSetUpFirst}
 
 pub account_constructor_has_a_lead_in : AccountConstructorHasALeadIn
 unfolding everything
@@ -82,3 +82,15 @@ wrong_types_break_7 = refl
 pub inner_closure_is_set_up_first : InnerClosureIsSetUpFirst
 unfolding everything
 inner_closure_is_set_up_first = refl
+
+pub wrong_types_of_ensures_on_throw_break_7 : WrongTypesOfEnsuresOnThrowBreak7
+unfolding everything
+wrong_types_of_ensures_on_throw_break_7 = refl
+
+pub exceptions_that_cant_be_made_break_7 : ExceptionsThatCantBeMadeBreak7
+unfolding everything
+exceptions_that_cant_be_made_break_7 = refl
+
+pub call_in_a_handler_breaks_2_and_1 : CallInAHandlerBreaks2And1
+unfolding everything
+call_in_a_handler_breaks_2_and_1 = refl

@@ -8,12 +8,13 @@ use Rattle.cil_model.specs.declared.body.RegionKind.TheVariants as region
 use Rattle.cil_model.specs.declared.contract.Clause.{Clause}
 use Rattle.cil_model.specs.declared.contract.ClauseKind.{ClauseKind}
 use Rattle.cil_model.specs.declared.contract.ClauseKind.TheVariants as kind
+use Rattle.cil_model.specs.declared.program.MethodDesc.{MethodDesc}
 use Rattle.cil_model.specs.declared.ty.Ty.{Ty, Known, MVar}
-use Rattle.cil_semantics.specs.Core.{Name, class_named}
+use Rattle.cil_semantics.specs.Core.{Name, class_named, string_ty}
 use Rattle.machine_rows.specs.Samples.{instr, bare, ldarg, ldloc, stloc, int, jump, ret, body, method, int_ty, void_ty, member_token}
 use Rattle.contract_parts.specs.Flow.{Code}
 use Rattle.contract_extract.specs.OwnContract.{own_contract}
-use Rattle.contract_rows.specs.Samples.{sample, sample_of, code, first_broken, with_closure, requires, requires_with, requires_of, ensures_call, on_throw, invariant_call, assert_call, end_block, result, old_value, value_at_return, new_exception, object_constructor, log_get, with_field, ldstr, locals_token, new_closure, with_closure_field, sample_with_message, load_message}
+use Rattle.contract_rows.specs.Samples.{sample, sample_of, code, first_broken, with_closure, requires, requires_with, requires_of, ensures_call, on_throw, invariant_call, assert_call, end_block, result, old_value, value_at_return, new_exception, object_constructor, log_get, with_field, ldstr, locals_token, new_closure, with_closure_field, sample_with_message, load_message, sample_made, own_exception, argument_exception, exception_constructor, with_exception, all_broken}
 use Rattle.contract_extract.specs.Clauses.{ref}
 
 -- ---- words
@@ -249,12 +250,19 @@ breaking_1 =
     static_code (ldarg 0 ∷ jump 0x3A 4 ∷ ldarg 0 ∷ requires ∷ ldarg 0 ∷ ret ∷ []) []
     ∷ static_code (ldarg 0 ∷ requires ∷ ldarg 0 ∷ jump 0x3A 0 ∷ ldarg 0 ∷ ret ∷ []) []
     ∷ static_code (ldarg 0 ∷ requires ∷ ldarg 0 ∷ ldarg 0 ∷ jump 0x3A 1 ∷ ret ∷ []) []
-    -- a compiler made the method
+    -- a compiler made the method, and its class
     ∷ code (sample (codes "T") (record (method 0 (codes "M") [] void_ty (body generated_instrs [] None)) { generated = true })) generated_instrs []
+    ∷ code (sample_made (codes "T") (method 0 (codes "M") [] void_ty (body generated_instrs [] None))) generated_instrs []
     ∷ []
 
 abbrev pub CrossedCallsBreak1 : Type 0
-CrossedCallsBreak1 = map first_broken breaking_1 ≡ Some (C1, 3) ∷ Some (C1, 1) ∷ Some (C1, 1) ∷ Some (C1, 1) ∷ []
+CrossedCallsBreak1 = map first_broken breaking_1 ≡ Some (C1, 3) ∷ Some (C1, 1) ∷ Some (C1, 1) ∷ Some (C1, 1) ∷ Some (C1, 1) ∷ []
+
+-- A call in a handler breaks the first rule at its place. Its segment begins before, where it breaks the second.
+abbrev pub CallInAHandlerBreaks2And1 : Type 0
+CallInAHandlerBreaks2And1 =
+    all_broken (static_code (bare 0 ∷ jump 0xDD 5 ∷ int 1 ∷ requires ∷ bare 0xDC ∷ ldarg 0 ∷ ret ∷ []) (a_try 0 2 5 ∷ []))
+    ≡ (C2, 0) ∷ (C1, 3) ∷ []
 
 abbrev pub breaking_2 : List Code
 breaking_2 =
@@ -275,6 +283,9 @@ breaking_2 =
 abbrev pub BadSegmentsBreak2 : Type 0
 BadSegmentsBreak2 = map first_broken breaking_2 ≡ Some (C2, 0) ∷ Some (C2, 0) ∷ Some (C2, 0) ∷ Some (C1, 0) ∷ Some (C2, 0) ∷ Some (C2, 0) ∷ None ∷ []
 
+abbrev pub named_result : List Instr
+named_result = result ∷ ensures_call ∷ ret ∷ []
+
 abbrev pub breaking_3 : List Code
 breaking_3 =
     -- Result in a precondition, in EnsuresOnThrow, in a method without a result, and in the rest
@@ -289,12 +300,15 @@ breaking_3 =
     ∷ void_code (ldarg 0 ∷ requires ∷ int 1 ∷ value_at_return ∷ bare 0x26 ∷ ret ∷ []) []
     -- Invariant in another method
     ∷ static_code (ldarg 0 ∷ invariant_call ∷ ldarg 0 ∷ ret ∷ []) []
+    -- an abbreviator without a result may name one, and EnsuresOnThrow has old values
+    ∷ code (sample (codes "T") (record (method 0 (codes "M") [] void_ty (body named_result [] None)) { abbreviator = true })) named_result []
+    ∷ static_code (ldarg 0 ∷ old_value ∷ on_throw ∷ ldarg 0 ∷ ret ∷ []) []
     ∷ []
 
 abbrev pub StrayCallsBreak3 : Type 0
 StrayCallsBreak3 =
     map first_broken breaking_3
-    ≡ Some (C3, 0) ∷ Some (C3, 0) ∷ Some (C3, 0) ∷ Some (C3, 2) ∷ Some (C3, 1) ∷ Some (C3, 1) ∷ Some (C3, 3) ∷ Some (C3, 3) ∷ Some (C3, 1) ∷ []
+    ≡ Some (C3, 0) ∷ Some (C3, 0) ∷ Some (C3, 0) ∷ Some (C3, 2) ∷ Some (C3, 1) ∷ Some (C3, 1) ∷ Some (C3, 3) ∷ Some (C3, 3) ∷ Some (C3, 1) ∷ None ∷ None ∷ []
 
 abbrev pub breaking_4 : List Code
 breaking_4 =
@@ -345,9 +359,44 @@ of_type_instrs = ldarg 0 ∷ requires_of ∷ ldarg 0 ∷ ret ∷ []
 
 -- a type that is no exception, a type parameter, and an outside type of which only its name is known
 abbrev pub of_type : Ty → Code
-of_type t = code (sample_of t (codes "T") (method 0 (codes "M") (int_ty ∷ []) int_ty (body of_type_instrs [] None))) of_type_instrs []
+of_type t = code (sample_of t argument_exception (codes "T") (method 0 (codes "M") (int_ty ∷ []) int_ty (body of_type_instrs [] None))) of_type_instrs []
 
 abbrev pub WrongTypesBreak7 : Type 0
 WrongTypesBreak7 =
     map (λ t. first_broken (of_type t)) (int_ty ∷ class_named (codes "System.Array") ∷ MVar 0 ∷ class_named (codes "Ext.Odd") ∷ class_named (codes "System.Exception") ∷ Known 0 ∷ [])
     ≡ Some (C7, 1) ∷ Some (C7, 1) ∷ Some (C7, 1) ∷ None ∷ None ∷ Some (C7, 1) ∷ []
+
+abbrev pub on_throw_instrs : List Instr
+on_throw_instrs = ldarg 0 ∷ on_throw ∷ ldarg 0 ∷ ret ∷ []
+
+-- the same of EnsuresOnThrow
+abbrev pub thrown_type : Ty → Code
+thrown_type t = code (sample_of argument_exception t (codes "T") (method 0 (codes "M") (int_ty ∷ []) int_ty (body on_throw_instrs [] None))) on_throw_instrs []
+
+abbrev pub WrongTypesOfEnsuresOnThrowBreak7 : Type 0
+WrongTypesOfEnsuresOnThrowBreak7 =
+    map (λ t. first_broken (thrown_type t)) (int_ty ∷ class_named (codes "System.Array") ∷ MVar 0 ∷ class_named (codes "Ext.Odd") ∷ Known 0 ∷ [])
+    ≡ Some (C7, 1) ∷ Some (C7, 1) ∷ Some (C7, 1) ∷ None ∷ Some (C7, 1) ∷ []
+
+-- an exception class of the set with these flags and constructors, of Requires and of EnsuresOnThrow
+abbrev pub of_own : List Instr → ℕ → List MethodDesc → Code
+of_own is flags constructors =
+    code (with_exception flags constructors (sample_of own_exception own_exception (codes "T") (method 0 (codes "M") (int_ty ∷ []) int_ty (body is [] None)))) is []
+
+abbrev pub exceptions_of_the_set : List Code
+exceptions_of_the_set =
+    -- a constructor without parameters, and one of a string
+    of_own of_type_instrs 1 (exception_constructor [] 6 ∷ [])
+    ∷ of_own of_type_instrs 1 (exception_constructor (string_ty ∷ []) 6 ∷ [])
+    -- an abstract class; none, one of another parameter, and one that can't be reached
+    ∷ of_own of_type_instrs 0x81 (exception_constructor [] 6 ∷ [])
+    ∷ of_own of_type_instrs 1 []
+    ∷ of_own of_type_instrs 1 (exception_constructor (int_ty ∷ []) 6 ∷ [])
+    ∷ of_own of_type_instrs 1 (exception_constructor [] 1 ∷ [])
+    -- EnsuresOnThrow makes none
+    ∷ of_own on_throw_instrs 0x81 []
+    ∷ []
+
+abbrev pub ExceptionsThatCantBeMadeBreak7 : Type 0
+ExceptionsThatCantBeMadeBreak7 =
+    map first_broken exceptions_of_the_set ≡ None ∷ None ∷ Some (C7, 1) ∷ Some (C7, 1) ∷ Some (C7, 1) ∷ Some (C7, 1) ∷ None ∷ []

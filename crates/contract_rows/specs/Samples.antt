@@ -1,10 +1,10 @@
 -- Words to write small methods with contracts, with members of Contract as rows of MemberRef and MethodSpec.
-use Rattle.std.specs.Prelude.{ℕ, ◌+◌, ◌-◌, unwrap_or, is_some, Bool, true, false, ◌==◌, List, [], ◌∷◌, ◌++◌, length, map, Option, Some, None, codes, if◌then◌else◌}
+use Rattle.std.specs.Prelude.{ℕ, ◌+◌, ◌-◌, unwrap_or, is_some, Bool, true, false, ◌==◌, List, [], ◌∷◌, ◌++◌, length, map, filter, Option, Some, None, codes, if◌then◌else◌}
 use Rattle.std.specs.List.{flat_map}
 use Rattle.cil_base.specs.declared.token.Token.{Token}
 use Rattle.cil_base.specs.declared.rule.Rule.{Rule}
 use Rattle.cil_base.specs.declared.refusal.Refusal.{Refusal}
-use Rattle.cil_base.specs.Refusals.{first_of}
+use Rattle.cil_base.specs.Refusals.{Test, first_of}
 use Rattle.cil_model.specs.declared.ty.Ty.{Ty, Prim, Known, MVar, ByRef}
 use Rattle.cil_model.specs.declared.body.Body.{Body}
 use Rattle.cil_model.specs.declared.body.Instr.{Instr}
@@ -46,14 +46,14 @@ argument_exception = class_named (codes "System.ArgumentException")
 abbrev pub constructor : Ty → Member
 constructor owner = record { owner = owner; static = false; name = codes ".ctor"; params = []; result = void_ty; args = [] }
 
--- the members, where Requires<E> is of this type
-abbrev pub members_of : Ty → List Member
-members_of e =
+-- the members, where Requires<E> and EnsuresOnThrow<E> are of these types
+abbrev pub members_of : Ty → Ty → List Member
+members_of e thrown =
     of_contract (codes "Requires") (bool_ty ∷ []) void_ty []
     ∷ of_contract (codes "Requires") (bool_ty ∷ string_ty ∷ []) void_ty []
     ∷ of_contract (codes "Requires") (bool_ty ∷ []) void_ty (e ∷ [])
     ∷ of_contract (codes "Ensures") (bool_ty ∷ []) void_ty []
-    ∷ of_contract (codes "EnsuresOnThrow") (bool_ty ∷ []) void_ty (argument_exception ∷ [])
+    ∷ of_contract (codes "EnsuresOnThrow") (bool_ty ∷ []) void_ty (thrown ∷ [])
     ∷ of_contract (codes "Invariant") (bool_ty ∷ []) void_ty []
     ∷ of_contract (codes "Assert") (bool_ty ∷ []) void_ty []
     ∷ of_contract (codes "EndContractBlock") [] void_ty []
@@ -150,17 +150,42 @@ abbrev pub int_field : FieldDesc
 int_field = record { owner = 0; name = codes "bal"; ty = int_ty; is_static = false; flags = 1 }
 
 -- the program of one class of this name with one method
-abbrev pub sample_of : Ty → Name → MethodDesc → Program
-sample_of e name m =
+abbrev pub sample_of : Ty → Ty → Name → MethodDesc → Program
+sample_of e thrown name m =
     record {
       types = record (class_with name (0 ∷ [])) { fields = 0 ∷ [] } ∷ outside_class contract_name ∷ [];
       fields = int_field ∷ [];
-      methods = m ∷ map desc (members_of e);
-      tokens = own_rows ++ member_rows 1 1 (members_of e);
+      methods = m ∷ map desc (members_of e thrown);
+      tokens = own_rows ++ member_rows 1 1 (members_of e thrown);
     }
 
 abbrev pub sample : Name → MethodDesc → Program
-sample name m = sample_of argument_exception name m
+sample name m = sample_of argument_exception argument_exception name m
+
+-- the same program, whose class a compiler made
+abbrev pub sample_made : Name → MethodDesc → Program
+sample_made name m =
+    let p : Program = sample name m in
+    record p { types = record (class_with name (0 ∷ [])) { fields = 0 ∷ []; generated = true } ∷ outside_class contract_name ∷ [] }
+
+-- ---- an exception class of the set, the third class of a program
+
+abbrev pub own_exception : Ty
+own_exception = Known 2
+
+-- its constructor with these parameters and flags
+abbrev pub exception_constructor : List Ty → ℕ → MethodDesc
+exception_constructor params flags = record (method 2 (codes ".ctor") params void_ty (body [] [] None)) { is_static = false; flags = flags }
+
+-- the same program with the class, of these flags and constructors
+abbrev pub with_exception : ℕ → List MethodDesc → Program → Program
+with_exception flags constructors p =
+    record p {
+      types =
+          p.types
+          ++ record (class_with (codes "Odd") (count_up (length p.methods) (length constructors))) { base = Some (class_named (codes "System.Exception")); flags = flags } ∷ [];
+      methods = p.methods ++ constructors;
+    }
 
 -- ---- a nested class that a compiler made, with one field and a constructor that does nothing
 
@@ -251,3 +276,7 @@ rule_and_place (Some r) = Some (r.rule, r.at)
 
 abbrev pub first_broken : Code → Option (Rule × ℕ)
 first_broken c = rule_and_place (first_of (tests c))
+
+-- every rule that is broken, by place and then by rule
+abbrev pub all_broken : Code → List (Rule × ℕ)
+all_broken c = map (λ (t : Test). (t.refusal.rule, t.refusal.at)) (filter (λ (t : Test). t.fails) (tests c))

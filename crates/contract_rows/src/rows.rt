@@ -1,6 +1,6 @@
 // Own contracts of small methods, computed from the definitions. The methods stand in `specs/Rows.antt`.
 
-ghost use Rattle.contract_rows.specs.Rows.{AccountConstructorHasALeadIn, AccountTakeHasTwoClauses, AccountInvariantIsAClause, AccountBreaksNoRule, IfThrowIsLeadIn, EndContractBlockIsNoClause, LabelsCountRequiresTogether, MessageIsAStaticField, EachClauseHasItsOwnLocals, AssertsAreNumberedOverTheBody, ClauseSetsUpItsClosure, ThoseBreakNoRule, CrossedCallsBreak1, BadSegmentsBreak2, StrayCallsBreak3, BadOldValuesBreak4, ThrowInASegmentBreaks5, SharedLocalsBreak6, WrongTypesBreak7, InnerClosureIsSetUpFirst};
+ghost use Rattle.contract_rows.specs.Rows.{AccountConstructorHasALeadIn, AccountTakeHasTwoClauses, AccountInvariantIsAClause, AccountBreaksNoRule, IfThrowIsLeadIn, EndContractBlockIsNoClause, LabelsCountRequiresTogether, MessageIsAStaticField, EachClauseHasItsOwnLocals, AssertsAreNumberedOverTheBody, ClauseSetsUpItsClosure, ThoseBreakNoRule, CrossedCallsBreak1, BadSegmentsBreak2, StrayCallsBreak3, BadOldValuesBreak4, ThrowInASegmentBreaks5, SharedLocalsBreak6, WrongTypesBreak7, WrongTypesOfEnsuresOnThrowBreak7, ExceptionsThatCantBeMadeBreak7, CallInAHandlerBreaks2And1, InnerClosureIsSetUpFirst};
 
 /// The account: a base constructor's call, a message, an old value, an invariant.
 #[tactic(auto, using(crate::proofs::RowLaws::account_constructor_has_a_lead_in, crate::proofs::RowLaws::account_take_has_two_clauses, crate::proofs::RowLaws::account_invariant_is_a_clause, crate::proofs::RowLaws::account_breaks_no_rule))]
@@ -26,7 +26,6 @@ pub fn own_contracts()
 {}
 
 /// Each rule, broken in each of its ways.
-#[tactic(auto, using(crate::proofs::RowLaws::crossed_calls_break_1, crate::proofs::RowLaws::bad_segments_break_2, crate::proofs::RowLaws::stray_calls_break_3, crate::proofs::RowLaws::bad_old_values_break_4, crate::proofs::RowLaws::throw_in_a_segment_breaks_5, crate::proofs::RowLaws::shared_locals_break_6, crate::proofs::RowLaws::wrong_types_break_7))]
 pub fn broken_rules()
     ensures crossed_calls_break_1 { CrossedCallsBreak1 }
     ensures bad_segments_break_2 { BadSegmentsBreak2 }
@@ -35,4 +34,7 @@ pub fn broken_rules()
     ensures throw_in_a_segment_breaks_5 { ThrowInASegmentBreaks5 }
     ensures shared_locals_break_6 { SharedLocalsBreak6 }
     ensures wrong_types_break_7 { WrongTypesBreak7 }
+    ensures wrong_types_of_ensures_on_throw_break_7 { WrongTypesOfEnsuresOnThrowBreak7 }
+    ensures exceptions_that_cant_be_made_break_7 { ExceptionsThatCantBeMadeBreak7 }
+    ensures call_in_a_handler_breaks_2_and_1 { CallInAHandlerBreaks2And1 }
 {}
