@@ -1,9 +1,9 @@
 // Own contracts of small bodies, and the rule that each wrong one breaks first.
 
-use crate::sample::{BRFALSE, CALL, LDARG, LDLOC, Line, RET, STLOC, THROW, body, program};
+use crate::sample::{BR, BRFALSE, CALL, LDARG, LDLOC, Line, POP, RET, STLOC, THROW, body, program};
 use cil_base::{Fault, Rule};
 use cil_model::{Body, Contract, Program};
-use contract_extract::own_contract_of;
+use contract_extract::{own_contract, own_contract_of};
 use contract_parts::Code;
 use il_flow::heights_in;
 use std::alloc::{AllocError, Global};
@@ -50,9 +50,29 @@ fn told_of(alloc: Global, p: &Program, body: &Body) -> Result<Told, AllocError> 
 }
 
 fn told_in(alloc: Global, lines: &[Line]) -> Result<Told, AllocError> {
-    let p = program(alloc)?;
+    let p = program(alloc, None)?;
     let b = body(alloc, lines)?;
     told_of(alloc, &p, &b)
+}
+
+/// What is told of the first method, whose heights are found too.
+fn told_of_method(alloc: Global, p: &Program) -> Told {
+    let Some(own) = p.methods.get(0) else {
+        return Told::Nothing;
+    };
+    let Some(body) = &own.body else {
+        return Told::Nothing;
+    };
+    if body.instrs.len() > 1000 {
+        return Told::Nothing;
+    }
+    let answer = own_contract(alloc, p, 0);
+    summary(&answer)
+}
+
+fn told_in_method(alloc: Global, lines: &[Line]) -> Result<Told, AllocError> {
+    let p = program(alloc, Some(body(alloc, lines)?))?;
+    Ok(told_of_method(alloc, &p))
 }
 
 fn has(alloc: Global, lines: &[Line], clauses: usize, asserts: usize, rest: u32) -> bool {
@@ -168,12 +188,92 @@ fn shared_locals_are_refused(alloc: Global) -> bool {
     )
 }
 
+/// An argument of OldValue that holds Result, one that reads a local that its segment stores, and a call
+/// that no path reaches.
+fn old_values_are_refused(alloc: Global) -> bool {
+    breaks(
+        alloc,
+        &[(CALL, 4), (CALL, 7), (CALL, 2), (LDARG, 0), (RET, 0)],
+        Rule::C4,
+        1,
+    ) && breaks(
+        alloc,
+        &[
+            (LDARG, 0),
+            (STLOC, 0),
+            (LDLOC, 0),
+            (CALL, 7),
+            (CALL, 2),
+            (LDARG, 0),
+            (RET, 0),
+        ],
+        Rule::C4,
+        3,
+    ) && breaks(
+        alloc,
+        &[
+            (BR, 4),
+            (LDARG, 0),
+            (CALL, 7),
+            (POP, 0),
+            (LDARG, 0),
+            (CALL, 2),
+            (LDARG, 0),
+            (RET, 0),
+        ],
+        Rule::C4,
+        2,
+    )
+}
+
+/// Requires and EnsuresOnThrow of a type that is no exception.
+fn wrong_types_are_refused(alloc: Global) -> bool {
+    breaks(
+        alloc,
+        &[(LDARG, 0), (CALL, 8), (LDARG, 0), (RET, 0)],
+        Rule::C7,
+        1,
+    ) && breaks(
+        alloc,
+        &[(LDARG, 0), (CALL, 9), (LDARG, 0), (RET, 0)],
+        Rule::C7,
+        1,
+    )
+}
+
+/// The same of a method of the program: a contract, a rule on blocks, and a local that isn't there.
+fn methods_are_read_or_refused(alloc: Global) -> bool {
+    matches!(
+        told_in_method(alloc, &BOTH),
+        Ok(Told::Has {
+            clauses: 2,
+            asserts: 1,
+            rest: 4
+        })
+    ) && matches!(
+        told_in_method(alloc, &[(CALL, 4), (CALL, 1), (LDARG, 0), (RET, 0)]),
+        Ok(Told::Breaks(Rule::C3, 0))
+    ) && matches!(
+        told_in_method(alloc, &[(LDLOC, 0), (RET, 0)]),
+        Ok(Told::Breaks(Rule::I6, 0))
+    )
+}
+
 #[test]
 fn own_contracts_are_read_or_refused(rt: HostRuntime) {
     let alloc = rt.alloc();
     let all = contracts_are_read(alloc)
         && wrong_ones_are_refused(alloc)
         && throw_is_refused(alloc)
-        && shared_locals_are_refused(alloc);
+        && shared_locals_are_refused(alloc)
+        && old_values_are_refused(alloc)
+        && wrong_types_are_refused(alloc);
+    assert!(rt; all);
+}
+
+#[test]
+fn contracts_of_methods_are_read_or_refused(rt: HostRuntime) {
+    let alloc = rt.alloc();
+    let all = methods_are_read_or_refused(alloc);
     assert!(rt; all);
 }

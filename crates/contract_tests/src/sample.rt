@@ -28,6 +28,11 @@ pub const BRFALSE: u16 = 0x39;
 
 pub const THROW: u16 = 0x7A;
 
+pub const POP: u16 = 0x26;
+
+/// The code of a type parameter of the method (ECMA-335, II.23.1.16).
+const MVAR: u8 = 0x1E;
+
 fn token(row: u32) -> Token {
     Token { table: 0x0A, row }
 }
@@ -97,6 +102,15 @@ fn type_named(alloc: Global, name: &[u8]) -> Result<TypeDesc, AllocError> {
     })
 }
 
+/// A type of one byte, or the method's first type parameter.
+fn type_of_code(code: u8) -> Ty {
+    if code == MVAR {
+        Ty::MVar(0)
+    } else {
+        Ty::Prim(code)
+    }
+}
+
 /// A static method with these parameters, and an answer of this type.
 fn method_named(
     alloc: Global,
@@ -108,7 +122,7 @@ fn method_named(
 ) -> Result<MethodDesc, AllocError> {
     let mut tys = Tys::new(alloc);
     for param in params {
-        tys.push(Ty::Prim(*param))?;
+        tys.push(type_of_code(*param))?;
     }
     Ok(MethodDesc {
         assembly: 0,
@@ -129,30 +143,50 @@ fn method_named(
     })
 }
 
+/// The method M(int32).
+fn own_method(alloc: Global, body: Option<Body>) -> Result<MethodDesc, AllocError> {
+    let mut desc = method_named(alloc, 0, b"M", &[8], 8, 0)?;
+    desc.body = body;
+    Ok(desc)
+}
+
 /// Its own method M(int32), and the members of Contract by their rows: 1 Requires, 2 Ensures,
-/// 3 Assert, 4 Result<int32>, 5 Invariant, 6 EndContractBlock.
-pub fn methods(alloc: Global) -> Result<MethodDescs, AllocError> {
+/// 3 Assert, 4 Result<int32>, 5 Invariant, 6 EndContractBlock, 7 OldValue<int32>, 8 Requires<int32>,
+/// 9 EnsuresOnThrow<int32>.
+fn methods(alloc: Global, own: Option<Body>) -> Result<MethodDescs, AllocError> {
     let mut out = MethodDescs::new(alloc);
-    out.push(method_named(alloc, 0, b"M", &[8], 8, 0)?)?;
+    out.push(own_method(alloc, own)?)?;
     out.push(method_named(alloc, 1, b"Requires", &[2], 1, 0)?)?;
     out.push(method_named(alloc, 1, b"Ensures", &[2], 1, 0)?)?;
     out.push(method_named(alloc, 1, b"Assert", &[2], 1, 0)?)?;
     out.push(method_named(alloc, 1, b"Result", &[], 8, 1)?)?;
     out.push(method_named(alloc, 1, b"Invariant", &[2], 1, 0)?)?;
     out.push(method_named(alloc, 1, b"EndContractBlock", &[], 1, 0)?)?;
+    out.push(method_named(alloc, 1, b"OldValue", &[MVAR], 8, 1)?)?;
+    out.push(method_named(alloc, 1, b"Requires", &[2], 1, 1)?)?;
+    out.push(method_named(alloc, 1, b"EnsuresOnThrow", &[2], 1, 1)?)?;
     Ok(out)
+}
+
+/// The type arguments of the member of that row: int32, where it has a type parameter.
+fn arguments(alloc: Global, row: u32) -> Result<Tys, AllocError> {
+    let mut args = Tys::new(alloc);
+    if matches!(row, 4 | 7 | 8 | 9) {
+        args.push(Ty::Prim(8))?;
+    }
+    Ok(args)
 }
 
 fn tokens(alloc: Global) -> Result<TokenRows, AllocError> {
     let mut out = TokenRows::new(alloc);
-    for row in 1..7u32 {
+    for row in 1..10u32 {
         out.note(TokenRow {
             assembly: 0,
             token: token(row),
             meaning: Meaning::OfMethod {
                 owner: Ty::Known(1),
                 method: row,
-                args: Tys::new(alloc),
+                args: arguments(alloc, row)?,
             },
         })?;
     }
@@ -166,11 +200,12 @@ fn types(alloc: Global) -> Result<TypeDescs, AllocError> {
     Ok(out)
 }
 
-pub fn program(alloc: Global) -> Result<Program, AllocError> {
+/// The program whose first method has this body.
+pub fn program(alloc: Global, own: Option<Body>) -> Result<Program, AllocError> {
     Ok(Program {
         types: types(alloc)?,
         fields: FieldDescs::new(alloc),
-        methods: methods(alloc)?,
+        methods: methods(alloc, own)?,
         tokens: tokens(alloc)?,
     })
 }
