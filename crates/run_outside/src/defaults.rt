@@ -9,7 +9,7 @@ use il_opcodes::Storage;
 use run_values::{default_of, storage_of};
 use std::alloc::{AllocError, Global};
 
-fn is_nothing(storage: Storage) -> bool
+pub(crate) fn is_nothing(storage: Storage) -> bool
     ensures { result ≡ is_void storage }
 {
     matches!(storage, Storage::Void)
