@@ -27,7 +27,7 @@ pub fn entries_begin_to_run()
     ensures { EntriesBegin }
 {}
 
-/// A whole run of an entry begins, and is answered where each of its states has what no law gives yet.
+/// A whole run of an entry begins, and is answered: the facts of the rewriting are all that is asked.
 pub fn whole_runs_are_answered()
     ensures { (p : Program) (k : Contracts) (ms : List MethodDesc) (g : AddedNumbers) (r : Rewritten p k ms g) → RunsAnswered p k ms g r }
 {}
