@@ -11,4 +11,4 @@ mod statics;
 pub use cells::{read_in, stored_at};
 pub use paths::{read_path, write_path};
 pub use pointers::{read, write};
-pub use statics::{default_statics, place_of_static, statics_of};
+pub use statics::{default_statics, place_of_owner, place_of_static, statics_of};

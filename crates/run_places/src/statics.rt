@@ -137,7 +137,8 @@ pub fn statics_of<'a>(world: &'a World, ty: &Ty) -> Option<&'a Statics>
     None
 }
 
-fn place_of_owner(list: &[Statics], ty: &Ty) -> Option<usize>
+/// Where the statics of a closed type stand among those of all.
+pub fn place_of_owner(list: &[Statics], ty: &Ty) -> Option<usize>
     ensures { result ≡ owner_place ty.now list.now }
 {
     let mut count: usize = 0;

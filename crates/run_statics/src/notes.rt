@@ -6,28 +6,13 @@ ghost use Rattle.cil_semantics.specs.Frames.{with_begun};
 ghost use Rattle.cil_semantics.specs.Places.{default_cells, static_layout};
 ghost use Rattle.cil_semantics.specs.declared.state.Init.TheVariants as init;
 ghost use Rattle.cil_semantics.specs.declared.Statics.{Statics as StaticsOf};
-ghost use Rattle.run_places.specs.Owners.{owner_place};
 ghost use Rattle.run_statics.specs.Noted.{begun};
 
 use crate::copies::{append_copies, copied_cells};
 use cil_model::{Program, Ty};
 use cil_semantics::{Cells, Init, Statics, StaticsList, World};
-use look_ups::is_same;
-use run_places::default_statics;
+use run_places::{default_statics, place_of_owner};
 use std::alloc::{AllocError, Global};
-
-fn place_of_owner(list: &[Statics], ty: &Ty) -> Option<usize>
-    ensures { result ≡ owner_place ty.now list.now }
-{
-    let mut count: usize = 0;
-    for statics in list {
-        if is_same(&statics.owner, ty) {
-            return Some(count);
-        }
-        count += 1;
-    }
-    None
-}
 
 fn push_begun(
     alloc: Global,

@@ -4,26 +4,12 @@ ghost use Rattle.std.specs.Prelude.{ℕ, ◌≡◌, ◌∷◌, ◌++◌, [], ◌
 ghost use Rattle.cil_semantics.specs.Unwind.{with_failed};
 ghost use Rattle.cil_semantics.specs.declared.Statics.{Statics as StaticsOf};
 ghost use Rattle.cil_semantics.specs.declared.Init.TheVariants.{Failed};
-ghost use Rattle.run_places.specs.Owners.{owner_place};
 ghost use Rattle.run_unwind.specs.Unwound.{failed_statics};
 
 use cil_model::Ty;
 use cil_semantics::{Cells, Init, Statics, StaticsList, World};
-use look_ups::is_same;
+use run_places::place_of_owner;
 use std::alloc::{AllocError, Global};
-
-fn place_of_owner(list: &[Statics], ty: &Ty) -> Option<usize>
-    ensures { result ≡ owner_place ty.now list.now }
-{
-    let mut count: usize = 0;
-    for statics in list {
-        if is_same(&statics.owner, ty) {
-            return Some(count);
-        }
-        count += 1;
-    }
-    None
-}
 
 fn push_failed(
     alloc: Global,
