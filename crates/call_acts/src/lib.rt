@@ -5,4 +5,4 @@ mod calls;
 mod names;
 
 pub use calls::{call_member, call_virtual, load_virtual_function, new_object};
-pub use names::{load_function, load_size, load_token};
+pub use names::{load_function, load_size, load_token, name_of_method, name_of_type};

@@ -11,7 +11,7 @@ ghost use Rattle.cil_semantics.specs.Lookups.{args_of, field_of, method_of, type
 ghost use Rattle.frame_acts.specs.Meant.{meant};
 
 use cil_base::Bytes;
-use cil_model::{Meaning, Program, Ty, Tys, Under, Value};
+use cil_model::{Meaning, Program, Ty, TypeArgs, Tys, Value};
 use cil_semantics::Local;
 use frame_acts::{Wanted, push};
 use look_ups::args_of;
@@ -76,7 +76,7 @@ fn name_of_known(program: &Program, k: u32) -> &[u8]
 }
 
 /// The full name of a type, without arguments; none for a type that has none.
-fn name_of_type<'a>(program: &'a Program, ty: &'a Ty) -> &'a [u8]
+pub fn name_of_type<'a>(program: &'a Program, ty: &'a Ty) -> &'a [u8]
     ensures { result.now ≡ acts.ty_name program.now ty.now }
 {
     match ty {
@@ -98,8 +98,9 @@ fn name_of_field(program: &Program, field: u32) -> &[u8]
     }
 }
 
+/// The name of a method, without its type's.
 #[tactic(auto, unfolding(cil_semantics::specs::Lookups::no_method))]
-fn name_of_method(program: &Program, method: u32) -> &[u8]
+pub fn name_of_method(program: &Program, method: u32) -> &[u8]
     ensures { result.now ≡ (method_of program.now method).name }
 {
     match program.methods.get(method as usize) {
@@ -229,7 +230,7 @@ fn push_function_of(
 ) -> Result<Wanted, AllocError>
     ensures { IfOk result (λ a. meant a local.new ≡ acts.goes_with local.old (function method (record { type_args = args_of owner.now; method_args = args.now })) local.old.stack) }
 {
-    let under = Under {
+    let under = TypeArgs {
         type_args: copied_tys(alloc, args_of(owner))?,
         method_args: copied_tys(alloc, args.as_slice())?,
     };

@@ -4,7 +4,7 @@ ghost use Rattle.std.specs.Prelude.{◌≡◌, IfOk};
 
 use crate::ty::Under;
 use cil_base::{Token, U32s};
-use sqlite_items::Items;
+use sqlite_items::{Boxed, Items};
 use std::alloc::{AllocError, Global};
 
 /// What an instruction is given (ECMA-335, III.1.9). Targets are places in the list of
@@ -28,7 +28,7 @@ pub struct Instr {
     pub constrained: Option<Token>,
     pub prefixes: u8,
     /// What stands for the type parameters in its tokens; None in a body as it was decoded.
-    pub under: Option<Under>,
+    pub under: Option<Boxed<Under>>,
 }
 
 pub type Instrs = Items<Instr>;
@@ -85,12 +85,18 @@ impl Operand {
     }
 }
 
-fn copied_under(alloc: Global, under: &Option<Under>) -> Result<Option<Under>, AllocError>
+fn copied_under(
+    alloc: Global,
+    under: &Option<Boxed<Under>>,
+) -> Result<Option<Boxed<Under>>, AllocError>
     ensures { IfOk result (λ copy. copy ≡ under.now) }
 {
     match under {
         None => Ok(None),
-        Some(under) => Ok(Some(under.copied(alloc)?)),
+        Some(under) => {
+            let copy = under.get().copied(alloc)?;
+            Ok(Some(Boxed::new(alloc, copy)?))
+        }
     }
 }
 

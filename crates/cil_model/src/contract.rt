@@ -6,7 +6,7 @@ ghost use Rattle.cil_model.specs.NoContracts.{no_contracts};
 use crate::body::Instrs;
 use crate::ty::Under;
 use cil_base::{Name, Token};
-use sqlite_items::Items;
+use sqlite_items::{Boxed, Items};
 use std::alloc::Global;
 
 /// A type where it stands: the local of that index in a StandAloneSig row, the argument of that
@@ -17,7 +17,7 @@ pub struct TyRef {
     pub assembly: u32,
     pub token: Token,
     pub index: u32,
-    pub under: Option<Under>,
+    pub under: Option<Boxed<Under>>,
 }
 
 pub type TyRefs = Items<TyRef>;

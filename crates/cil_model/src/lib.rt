@@ -27,5 +27,5 @@ pub use program::{
 pub use run::{Outcome, Replies, Reply, ReplyResult, RunResult, Trace, TraceItem};
 pub use tokens::TokenRows;
 pub use tree::{Block, Blocks, Handler, Handlers, Tree};
-pub use ty::{Ty, Tys, Under};
+pub use ty::{Instance, Instances, Signatures, Ty, TypeArgs, Tys, Under};
 pub use value::{Pointer, Value, Values};

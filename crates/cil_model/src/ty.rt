@@ -33,11 +33,36 @@ pub enum Ty {
 
 pub type Tys = Items<Ty>;
 
-/// What stands for the type parameters in the tokens of an instruction.
+/// The arguments of a method's type, and of the method.
+#[derive(Drop)]
+pub struct TypeArgs {
+    pub type_args: Tys,
+    pub method_args: Tys,
+}
+
+/// Types as the blobs of an assembly spell them (ECMA-335, II.23.2.12).
+pub type Signatures = Items<Bytes>;
+
+/// The arguments of a type and of a method where an assembly names an instance of them (ECMA-335,
+/// II.23.2.14 and II.23.2.15).
+#[derive(Drop)]
+pub struct Instance {
+    pub assembly: u32,
+    pub type_args: Signatures,
+    pub method_args: Signatures,
+}
+
+pub type Instances = Items<Instance>;
+
+/// What stands for the type parameters in the tokens of an instruction: the types, by which a run
+/// goes, and the instances by which they came, with signatures that tell more than the types do.
+/// The first instance gives the parameters of the tokens, and each further one those in the
+/// signatures of the one before it.
 #[derive(Drop)]
 pub struct Under {
     pub type_args: Tys,
     pub method_args: Tys,
+    pub instances: Instances,
 }
 
 impl Ty {
@@ -78,6 +103,51 @@ pub fn copied_tys(alloc: Global, tys: &Tys) -> Result<Tys, AllocError>
     Ok(copies)
 }
 
+impl TypeArgs {
+    /// An equal value of its own.
+    pub fn copied(&self, alloc: Global) -> Result<TypeArgs, AllocError>
+        ensures { IfOk result (λ copy. copy ≡ self.now) }
+    {
+        Ok(TypeArgs {
+            type_args: copied_tys(alloc, &self.type_args)?,
+            method_args: copied_tys(alloc, &self.method_args)?,
+        })
+    }
+}
+
+fn copied_signatures(alloc: Global, signatures: &Signatures) -> Result<Signatures, AllocError>
+    ensures { IfOk result (λ copy. copy ≡ signatures.now) }
+{
+    let mut copies = Signatures::new(alloc);
+    for signature in signatures.as_slice() {
+        copies.push(Bytes::from_slice(alloc, signature.as_slice())?)?;
+    }
+    Ok(copies)
+}
+
+impl Instance {
+    /// An equal value of its own.
+    pub fn copied(&self, alloc: Global) -> Result<Instance, AllocError>
+        ensures { IfOk result (λ copy. copy ≡ self.now) }
+    {
+        Ok(Instance {
+            assembly: self.assembly,
+            type_args: copied_signatures(alloc, &self.type_args)?,
+            method_args: copied_signatures(alloc, &self.method_args)?,
+        })
+    }
+}
+
+fn copied_instances(alloc: Global, instances: &Instances) -> Result<Instances, AllocError>
+    ensures { IfOk result (λ copy. copy ≡ instances.now) }
+{
+    let mut copies = Instances::new(alloc);
+    for instance in instances.as_slice() {
+        copies.push(instance.copied(alloc)?)?;
+    }
+    Ok(copies)
+}
+
 impl Under {
     /// An equal value of its own.
     pub fn copied(&self, alloc: Global) -> Result<Under, AllocError>
@@ -86,6 +156,7 @@ impl Under {
         Ok(Under {
             type_args: copied_tys(alloc, &self.type_args)?,
             method_args: copied_tys(alloc, &self.method_args)?,
+            instances: copied_instances(alloc, &self.instances)?,
         })
     }
 }

@@ -1,6 +1,6 @@
 // The values that a run computes with.
 
-use crate::ty::{Ty, Under};
+use crate::ty::{Ty, TypeArgs};
 use cil_base::{Bytes, U32s, Units};
 use sqlite_items::{Boxed, Items};
 
@@ -49,7 +49,7 @@ pub enum Value {
     /// A struct of the set, with one value for each instance field.
     Struct(Items<Value>),
     /// A method with the arguments of its type and its own.
-    Func { method: u32, under: Boxed<Under> },
+    Func { method: u32, under: Boxed<TypeArgs> },
     /// A value that is carried along unread.
     Opaque(Bytes),
 }

@@ -10,6 +10,7 @@ ghost use Rattle.cil_semantics.specs.Types.{under};
 use crate::tokens::Given;
 use cil_model::{Meaning, Program, Ty, TyRef, Tys, Under};
 use look_ups::{args_of, ty_under};
+use sqlite_items::Boxed;
 use std::alloc::{AllocError, Global};
 
 fn copied_some(alloc: Global, ty: Option<&Ty>) -> Result<Option<Ty>, AllocError>
@@ -97,12 +98,20 @@ fn named_type(alloc: Global, program: &Program, reference: &TyRef) -> Result<Opt
 }
 
 // The type where others stand for the parameters in the words of a clause's own method.
-fn ty_in(alloc: Global, under: &Option<Under>, ty: Ty) -> Result<Ty, AllocError>
+fn ty_in(alloc: Global, under: &Option<Boxed<Under>>, ty: Ty) -> Result<Ty, AllocError>
     ensures { IfOk result (λ it. it ≡ ty_in under.now ty) }
 {
     match under {
         None => Ok(ty),
-        Some(u) => ty_under(alloc, &ty, u.type_args.as_slice(), u.method_args.as_slice()),
+        Some(it) => {
+            let own = it.get();
+            ty_under(
+                alloc,
+                &ty,
+                own.type_args.as_slice(),
+                own.method_args.as_slice(),
+            )
+        }
     }
 }
 

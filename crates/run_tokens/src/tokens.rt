@@ -73,7 +73,7 @@ fn own_under(instr: &Instr) -> Option<&Under>
 {
     match &instr.under {
         None => None,
-        Some(under) => Some(under),
+        Some(under) => Some(under.get()),
     }
 }
 

@@ -4,7 +4,7 @@ ghost use Rattle.std.specs.Prelude.{◌≡◌, IfOk};
 ghost use Rattle.cil_model.specs.declared.value.Value.{Text as text, Ptr as pointer, Func as function, Opaque as carried};
 
 use cil_base::{Bytes, U32s, Units};
-use cil_model::{Pointer, Under, Value, Values};
+use cil_model::{Pointer, TypeArgs, Value, Values};
 use sqlite_items::Boxed;
 use std::alloc::{AllocError, Global};
 
@@ -27,7 +27,7 @@ fn copied_place(alloc: Global, q: &Pointer) -> Result<Value, AllocError>
     Ok(Value::Ptr(Boxed::new(alloc, copy)?))
 }
 
-fn copied_function(alloc: Global, method: u32, under: &Under) -> Result<Value, AllocError>
+fn copied_function(alloc: Global, method: u32, under: &TypeArgs) -> Result<Value, AllocError>
     ensures { IfOk result (λ copy. copy ≡ function method under.now) }
 {
     let copy = under.copied(alloc)?;

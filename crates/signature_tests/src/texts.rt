@@ -1,6 +1,6 @@
 // The texts of runs; expected ones are worked out by hand.
 use cil_base::{Bytes, Name, U32s, Units};
-use cil_model::{Outcome, Pointer, Reply, ReplyResult, TraceItem, Tys, Under, Value, Values};
+use cil_model::{Outcome, Pointer, Reply, ReplyResult, TraceItem, TypeArgs, Tys, Value, Values};
 use run_texts::{print_item, print_outcome, print_value, text_of};
 use sqlite_items::Boxed;
 use std::alloc::{AllocError, Global};
@@ -31,7 +31,7 @@ fn prints_a_pointer(alloc: Global) -> bool {
 }
 
 fn prints_a_function(alloc: Global) -> bool {
-    let no_arguments = Under {
+    let no_arguments = TypeArgs {
         type_args: Tys::new(alloc),
         method_args: Tys::new(alloc),
     };

@@ -4,7 +4,7 @@ use Rattle.std.proofs.Common.{lt-ltb}
 use Rattle.std.specs.Prelude.{◌&&◌, not, if◌then◌else◌, slice_get, option_and_then, is_some, IsTrue}
 use Rattle.cil_model.specs.declared.ty.Ty.{Ty, Known}
 use Rattle.cil_model.specs.declared.ty.Ty.TheVariants as ty
-use Rattle.cil_model.specs.declared.ty.Under.{Under as UnderTypes}
+use Rattle.cil_model.specs.declared.ty.TypeArgs.{TypeArgs}
 use Rattle.cil_model.specs.declared.value.Value.{Value, out-Value}
 use Rattle.cil_model.specs.declared.value.Value as val
 use Rattle.cil_model.specs.declared.value.Value.TheOpen.{Value-F}
@@ -114,11 +114,11 @@ module _ (p : Program) (k : Contracts) (ms : List MethodDesc) (g : AddedNumbers)
 
   -- ---- the function of a delegate
 
-  abbrev enters_with : Program → Contracts → Bool → ℕ → UnderTypes → Ty → Value → List Value → Continuation → List Frame → World → Next
+  abbrev enters_with : Program → Contracts → Bool → ℕ → TypeArgs → Ty → Value → List Value → Continuation → List Frame → World → Next
   enters_with q c gives m u owner target values b fs w =
       if is_some (method_of q m).body && (not (type_of q (method_of q m).owner).reference && same_bool gives (gives_value q owner m u.method_args)) then enter q c owner m u.method_args (delegate_values q owner m target values) b fs w else stuck w
 
-  calls_function : (gives : Bool) (m : ℕ) (u : UnderTypes) (target : Value) (values : List Value) (b b' : Continuation) (fs fs' : List Frame) (w : World) (ss : List Statics) → m < r.methods → hasnt_begun b ≡ false → hasnt_begun b' ≡ false → Behind b b' fs fs' w ss
+  calls_function : (gives : Bool) (m : ℕ) (u : TypeArgs) (target : Value) (values : List Value) (b b' : Continuation) (fs fs' : List Frame) (w : World) (ss : List Statics) → m < r.methods → hasnt_begun b ≡ false → hasnt_begun b' ≡ false → Behind b b' fs fs' w ss
       → To (cst + lay (suc (suc (length fs)))) (enters_with p k gives m u (owner_type p m u.type_args) target values b fs w) (enters_with p' no_contracts gives m u (owner_type p' m u.type_args) target values b' fs' (beside ss w))
   unfolding may_enter
   calls_function gives m u target values b b' fs fs' w ss old nb nb' z =
