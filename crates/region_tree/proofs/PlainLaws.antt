@@ -1,22 +1,26 @@
 -- Code of which each instruction goes by the rules on regions.
-use Rattle.std.proofs.Common.{◌≡◌, ◌+◌, ◌<◌, ℕ, zero, suc, Bool, true, false, not, ◌||◌, ◌&&◌, List, [], ◌∷◌, ◌++◌, inl, inr, length, get_or, take, map, refl, subst, sym, ap, ◌∙◌, arith, cond, eqb}
-use Rattle.std.specs.Prelude.{slice_index}
+use Rattle.std.proofs.Common.{◌≡◌, ◌≢◌, ◌+◌, ◌<◌, ◌==◌, ℕ, zero, suc, Bool, true, false, not, ◌||◌, ◌&&◌, List, [], ◌∷◌, ◌++◌, inl, inr, length, get_or, take, map, refl, subst, sym, ap, ◌∙◌, arith, cond, eqb}
+use Rattle.std.specs.Prelude.{Option, Some, None, slice_get, slice_index}
 use Rattle.std.specs.List.{enumerate_from, list_any}
 use Rattle.std.proofs.lemmas.Bool.{eqb-false, eqb-true, false≢true}
 use Rattle.std.proofs.lemmas.List.{get_or_read}
+use Rattle.std.proofs.lemmas.Option.{get_or_from_slice_get, slice_get_within}
 use Rattle.cil_base.proofs.Small.{or_neither}
 use Rattle.cil_base.specs.declared.refusal.Place.{Place}
 use Rattle.cil_base.specs.Refusals.{Fails, NoneBroken, Test}
 use Rattle.cil_model.specs.declared.body.Body.{Body}
 use Rattle.cil_model.specs.declared.body.Region.{Region}
 use Rattle.cil_model.specs.declared.body.Instr.{Instr}
-use Rattle.cil_semantics.specs.Unwind.{holds_place}
+use Rattle.cil_semantics.specs.Unwind.{holds_place, in_try}
 use Rattle.il_flow.specs.Successors.{successors}
 use Rattle.il_opcodes.specs.Opcodes.{class_of}
 use Rattle.region_tree.specs.Holders.{AreHolders, behind, first_number, is_held}
 use Rattle.region_tree.specs.Extents.{KeepsControl}
 use Rattle.region_tree.specs.Nesting.{breaks_nesting, depths_of}
+use Rattle.region_tree.specs.Marks.{AreMarks, has_edge, is_unmarked}
 use Rattle.region_tree.specs.Order.{is_crossed}
+use Rattle.region_tree.proofs.HolderLaws.{holds_false, holds_true}
+use Rattle.region_tree.proofs.MarkLaws.{no_edge}
 use Rattle.region_tree.specs.Rules.{BreaksControl, breaks_region, crosses, edge_test, end_test, filter_test, is_filter, nesting_test, goes_in, goes_out, in_handler, in_region, is_leave, is_out_of_place, is_ret}
 
 pub none_crossed : (rs : List Region) (leaves : Bool) (k t : ℕ) → (leaves ≡ false → list_any (λ r. goes_out r k t) rs ≡ false) → list_any (λ r. goes_in r k t) rs ≡ false → is_crossed rs leaves k t ≡ false
@@ -29,6 +33,60 @@ none_crossed (r ∷ rs) leaves k t out into =
     first : (b : Bool) → (b ≡ false → goes_out r k t ≡ false) → (not b && goes_out r k t) ≡ false
     first true f = refl
     first false f = f refl
+
+-- ---- the next instruction
+
+-- where a range neither begins nor ends at the second of two places, it holds both or none
+same_held : (from to k : ℕ) → from ≢ k + 1 → to ≢ k + 1 → holds_place from to (k + 1) ≡ holds_place from to k
+same_held from to k x y = go (holds_place from to k) refl (holds_place from to (k + 1)) refl
+  where
+    go : (a : Bool) → holds_place from to k ≡ a → (b : Bool) → holds_place from to (k + 1) ≡ b → b ≡ a
+    go true e true f = refl
+    go false e false f = refl
+    go true e false f =
+        let two = holds_true from to k e in
+        elim (holds_false from to (k + 1) f) [ inl z ↦ absurd (omega (arith, z, two.0)) | inr z ↦ absurd (omega (arith, z, two.1, y)) ]
+    go false e true f =
+        let two = holds_true from to (k + 1) f in
+        elim (holds_false from to k e) [ inl z ↦ absurd (omega (arith, z, two.0, x)) | inr z ↦ absurd (omega (arith, z, two.1)) ]
+
+stays : (r : Region) (leaves : Bool) (k : ℕ) → in_try r (k + 1) ≡ in_try r k → in_handler r (k + 1) ≡ in_handler r k → crosses leaves r k (k + 1) ≡ false
+stays r leaves k x y = go leaves (in_try r k) (in_try r (k + 1)) (in_handler r k) (in_handler r (k + 1)) (not (k + 1 == r.try_from)) x y
+  where
+    same : (b t h z : Bool) → ((not b && ((t && not t) || (h && not h))) || ((h && not h) || (t && (not t && z)))) ≡ false
+    same true true true z = refl
+    same true true false z = refl
+    same true false true z = refl
+    same true false false z = refl
+    same false true true z = refl
+    same false true false z = refl
+    same false false true z = refl
+    same false false false z = refl
+
+    go : (b t t_next h h_next z : Bool) → t_next ≡ t → h_next ≡ h → ((not b && ((t && not t_next) || (h && not h_next))) || ((h_next && not h) || (t_next && (not t && z)))) ≡ false
+    go b t t_next h h_next z x y = rw (x, y) (same b t h z)
+
+neither : (a b : Bool) → a ≡ false → b ≡ false → (a || b) ≡ false
+neither true b x y = absurd cc
+neither false b x y = y
+
+no_edge_crossed : (rs : List Region) (leaves : Bool) (k : ℕ) → list_any (has_edge (k + 1)) rs ≡ false → is_crossed rs leaves k (k + 1) ≡ false
+no_edge_crossed [] leaves k e = refl
+no_edge_crossed (r ∷ rs) leaves k e =
+    let two = or_neither (has_edge (k + 1) r) (list_any (has_edge (k + 1)) rs) e in
+    let none = no_edge (k + 1) r two.0 in
+    neither (crosses leaves r k (k + 1)) (is_crossed rs leaves k (k + 1))
+    (stays r leaves k (same_held r.try_from r.try_to k none.try_from none.try_to) (same_held r.handler_from r.handler_to k none.handler_from none.handler_to))
+    (no_edge_crossed rs leaves k two.1)
+
+pub unmarked_crosses_none : (rs : List Region) (marks : List Bool) (leaves : Bool) (k : ℕ) → AreMarks rs (length marks) marks → is_unmarked (slice_get marks (k + 1)) ≡ true → is_crossed rs leaves k (k + 1) ≡ false
+unmarked_crosses_none rs marks leaves k are e = go (slice_get marks (k + 1)) refl e
+  where
+    go : (o : Option Bool) → slice_get marks (k + 1) ≡ o → is_unmarked o ≡ true → is_crossed rs leaves k (k + 1) ≡ false
+    go None at u = absurd cc
+    go (Some true) at u = absurd cc
+    go (Some false) at u =
+        no_edge_crossed rs leaves k (sym (are.each (k + 1) (slice_get_within marks (k + 1) false at)) ∙ get_or_from_slice_get marks (k + 1) false false at)
 
 -- ---- ret
 

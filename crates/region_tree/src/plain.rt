@@ -1,9 +1,10 @@
 // A test that most bodies pass which break no rule on regions, in one pass.
-ghost use Rattle.std.specs.Prelude.{◌≡◌, ◌+◌, ◌≤◌, ◌<◌, ◌^◌, true, false, length, IfOk, slice_index_or};
+ghost use Rattle.std.specs.Prelude.{◌≡◌, ◌+◌, ◌≤◌, ◌<◌, ◌^◌, true, false, length, IfOk, slice_index_or, slice_get};
 ghost use Rattle.std.specs.List.{list_any};
 ghost use Rattle.il_opcodes.specs.Opcodes.{class_of, opcode_of};
 ghost use Rattle.il_flow.specs.Successors.{goes_on, successors, targets};
 ghost use Rattle.region_tree.specs.Holders.{AreHolders};
+ghost use Rattle.region_tree.specs.Marks.{AreMarks, is_unmarked};
 ghost use Rattle.region_tree.specs.Order.{AreInOrder, AreKnown, is_crossed, AreKept};
 ghost use Rattle.region_tree.specs.Rules.{breaks_region, crosses, goes_in, goes_out, in_region, is_out_of_place, may_end, may_leave, may_rethrow};
 
@@ -12,6 +13,7 @@ use crate::edges::{
     may_leave, may_rethrow,
 };
 use crate::holders::holders_of;
+use crate::marks::marks_of;
 use cil_model::{Instr, Operand, Region};
 use il_flow::goes_on;
 use il_opcodes::{Class, Opcode, find_opcode};
@@ -67,6 +69,37 @@ fn crosses_none(
     (leaves || leaves_none(regions, outer, at, to)) && enters_none(regions, inner, at, to)
 }
 
+fn is_unmarked(marks: &[bool], place: usize) -> bool
+    ensures { result ≡ is_unmarked (slice_get marks.now place) }
+{
+    match marks.get(place) {
+        Some(marked) => !*marked,
+        None => false,
+    }
+}
+
+/// Whether control that goes on to the next place crosses no edge: most places are none at which a part
+/// of a region begins or ends.
+#[tactic(auto, using(crate::proofs::PlainLaws::unmarked_crosses_none))]
+fn next_crosses_none(
+    regions: &[Region],
+    marks: &[bool],
+    outer: &[u32],
+    inner: &[u32],
+    leaves: bool,
+    at: u32,
+) -> bool
+    requires known { AreKnown regions.now outer.now inner.now }
+    requires marked { AreMarks regions.now (length marks.now) marks.now }
+    requires small { at + 1 < 2 ^ 32 }
+    ensures { result ≡ true → is_crossed regions.now leaves at (at + 1) ≡ false }
+{
+    if is_unmarked(marks, at as usize + 1) {
+        return true;
+    }
+    crosses_none(regions, outer, inner, leaves, at, at + 1)
+}
+
 fn cases_cross_none(
     regions: &[Region],
     outer: &[u32],
@@ -108,6 +141,7 @@ fn targets_cross_none(
 
 fn successors_cross_none(
     regions: &[Region],
+    marks: &[bool],
     outer: &[u32],
     inner: &[u32],
     leaves: bool,
@@ -116,11 +150,12 @@ fn successors_cross_none(
     found: Option<Opcode>,
 ) -> bool
     requires known { AreKnown regions.now outer.now inner.now }
+    requires marked { AreMarks regions.now (length marks.now) marks.now }
     requires small { at + 1 < 2 ^ 32 }
     requires found { found ≡ opcode_of i.now.op }
     ensures { result ≡ true → list_any (is_crossed regions.now leaves at) (successors at i.now) ≡ false }
 {
-    if goes_on(found) && !crosses_none(regions, outer, inner, leaves, at, at + 1) {
+    if goes_on(found) && !next_crosses_none(regions, marks, outer, inner, leaves, at) {
         return false;
     }
     targets_cross_none(regions, outer, inner, leaves, at, &i.operand)
@@ -137,6 +172,7 @@ fn lies_in_none(regions: &[Region], outer: &[u32], at: u32) -> bool
 #[tactic(auto, using(crate::proofs::PlainLaws::keeps_edges), unfolding(il_opcodes::specs::Opcodes::class_of))]
 fn edges_are_kept(
     regions: &[Region],
+    marks: &[bool],
     outer: &[u32],
     inner: &[u32],
     at: u32,
@@ -144,6 +180,7 @@ fn edges_are_kept(
     found: Option<Opcode>,
 ) -> bool
     requires known { AreKnown regions.now outer.now inner.now }
+    requires marked { AreMarks regions.now (length marks.now) marks.now }
     requires small { at + 1 < 2 ^ 32 }
     requires found { found ≡ opcode_of i.now.op }
     ensures { result ≡ true → breaks_region regions.now at i.now ≡ false }
@@ -152,7 +189,7 @@ fn edges_are_kept(
     if is_ret(class) && !lies_in_none(regions, outer, at) {
         return false;
     }
-    successors_cross_none(regions, outer, inner, is_leave(class), at, i, found)
+    successors_cross_none(regions, marks, outer, inner, is_leave(class), at, i, found)
 }
 
 fn holder_lets_leave(regions: &[Region], number: usize, at: u32) -> bool
@@ -187,8 +224,16 @@ fn is_in_place(regions: &[Region], number: usize, at: u32, i: &Instr, found: Opt
 }
 
 /// Whether an instruction breaks none of the rules on edges and on what stands where.
-fn is_kept(regions: &[Region], outer: &[u32], inner: &[u32], at: u32, i: &Instr) -> bool
+fn is_kept(
+    regions: &[Region],
+    marks: &[bool],
+    outer: &[u32],
+    inner: &[u32],
+    at: u32,
+    i: &Instr,
+) -> bool
     requires known { AreKnown regions.now outer.now inner.now }
+    requires marked { AreMarks regions.now (length marks.now) marks.now }
     requires small { at + 1 < 2 ^ 32 }
     requires there { at < length outer.now }
     ensures edges { result ≡ true → breaks_region regions.now at i.now ≡ false }
@@ -196,19 +241,26 @@ fn is_kept(regions: &[Region], outer: &[u32], inner: &[u32], at: u32, i: &Instr)
 {
     let number = outer[at as usize] as usize;
     let found = find_opcode(i.op);
-    (edges_are_kept(regions, outer, inner, at, i, found) || !breaks_region(regions, at, i))
+    (edges_are_kept(regions, marks, outer, inner, at, i, found) || !breaks_region(regions, at, i))
         && (is_in_place(regions, number, at, i, found) || !is_out_of_place(regions, at, i))
 }
 
 /// Whether code breaks none of the rules on edges and on what stands where.
-fn is_code_kept(regions: &[Region], outer: &[u32], inner: &[u32], instrs: &[Instr]) -> bool
+fn is_code_kept(
+    regions: &[Region],
+    marks: &[bool],
+    outer: &[u32],
+    inner: &[u32],
+    instrs: &[Instr],
+) -> bool
     requires known { AreKnown regions.now outer.now inner.now }
+    requires marked { AreMarks regions.now (length marks.now) marks.now }
     requires few { length instrs.now < 2 ^ 32 }
     requires there { length outer.now ≡ length instrs.now }
     ensures { result ≡ true → AreKept regions.now instrs.now }
 {
     for k in 0..instrs.len() {
-        if !is_kept(regions, outer, inner, k as u32, &instrs[k]) {
+        if !is_kept(regions, marks, outer, inner, k as u32, &instrs[k]) {
             return false;
         }
     }
@@ -216,6 +268,7 @@ fn is_code_kept(regions: &[Region], outer: &[u32], inner: &[u32], instrs: &[Inst
 }
 
 /// Whether code is found to break none of the rules on edges and on what stands where.
+#[tactic(auto, using(crate::proofs::MarkLaws::whole_marks))]
 pub(crate) fn is_code_plain(
     alloc: Global,
     regions: &[Region],
@@ -226,8 +279,9 @@ pub(crate) fn is_code_plain(
     requires few { length instrs.now < 2 ^ 32 }
     ensures { IfOk result (λ b. b ≡ true → AreKept regions.now instrs.now) }
 {
+    let marks = marks_of(alloc, regions, instrs.len())?;
     let outer = holders_of(alloc, 0, regions, instrs.len())?;
     let inner = holders_of(alloc, 1, regions, instrs.len())?;
-    let kept = is_code_kept(regions, &outer, &inner, instrs);
+    let kept = is_code_kept(regions, &marks, &outer, &inner, instrs);
     Ok(kept)
 }

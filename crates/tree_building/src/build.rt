@@ -20,8 +20,9 @@ fn add_rows(
 ) -> Result<(), AllocError>
     ensures { OnOk result ((instrs : List Instr) → NestWell regions.now → AllValidRegions (length instrs) regions.now → IsBuilt instrs regions.now [] (front.old ++ reverse back.old) → IsBuilt instrs regions.now regions.now (front.new ++ reverse back.new)) }
 {
+    let mut own = Spans::new(alloc);
     for region in regions {
-        add_row(alloc, region, front, back)?;
+        add_row(alloc, region, front, back, &mut own)?;
     }
     Ok(())
 }

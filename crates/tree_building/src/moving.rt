@@ -1,6 +1,6 @@
 // Spans that are moved from one list to another, and spans as blocks. A list of spans that stand behind
 // others has its first span last.
-ghost use Rattle.std.specs.Prelude.{◌≡◌, ◌≤◌, ◌<◌, ◌++◌, reverse, OnOk, IfOk};
+ghost use Rattle.std.specs.Prelude.{◌≡◌, ◌≤◌, ◌<◌, ◌++◌, [], reverse, OnOk, IfOk};
 ghost use Rattle.tree_building.specs.Spans.{LastIs, blocks_of, with_handlers};
 
 use crate::span::{Span, Spans};
@@ -36,20 +36,32 @@ pub(crate) fn move_front(place: u32, front: &mut Spans, back: &mut Spans) -> Res
     Ok(())
 }
 
+/// Puts blocks behind others, in whose place they come where there are none yet.
+fn put_blocks(blocks: Blocks, out: &mut Blocks) -> Result<(), AllocError>
+    ensures { OnOk result (out.new ≡ out.old ++ blocks) }
+{
+    if out.is_empty() {
+        *out = blocks;
+        return Ok(());
+    }
+    out.append(blocks)
+}
+
 fn put_span(span: Span, out: &mut Blocks) -> Result<(), AllocError>
     ensures { OnOk result (out.new ≡ out.old ++ with_handlers span.inner span.handlers) }
 {
     let inner = span.inner;
     let handlers = span.handlers;
     if handlers.is_empty() {
-        return out.append(inner);
+        return put_blocks(inner, out);
     }
     out.push(Block::Guarded { inner, handlers })
 }
 
-/// The blocks of spans of which the first stands last.
+/// The blocks of spans of which the first stands last. No span is left.
 pub(crate) fn take_blocks(alloc: Global, spans: &mut Spans) -> Result<Blocks, AllocError>
-    ensures { IfOk result (λ blocks. blocks ≡ blocks_of (reverse spans.old)) }
+    ensures blocks { IfOk result (λ blocks. blocks ≡ blocks_of (reverse spans.old)) }
+    ensures emptied { OnOk result (spans.new ≡ []) }
 {
     let mut out = Blocks::new(alloc);
     while let Some(span) = spans.pop() {

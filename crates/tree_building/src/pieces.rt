@@ -3,9 +3,10 @@ ghost use Rattle.std.specs.Prelude.{◌≡◌, ◌<◌, ◌^◌, [], ◌∷◌, 
 ghost use Rattle.cil_model.specs.declared.tree.Block.TheVariants.{Code};
 ghost use Rattle.tree_building.specs.Building.{IsBuilt};
 
-use crate::marks::{marks_of, next_mark};
+use crate::marks::next_mark;
 use crate::span::{Span, Spans};
 use cil_model::{Block, Blocks, Handlers, Instr, Instrs, Region};
+use region_tree::marks_of;
 use sqlite_items::Items;
 use std::alloc::{AllocError, Global};
 
@@ -22,7 +23,7 @@ fn copied(alloc: Global, instrs: &[Instr]) -> Result<Instrs, AllocError>
 fn piece(alloc: Global, instrs: &[Instr], from: u32, to: u32) -> Result<Span, AllocError>
     ensures { IfOk result (λ s. s ≡ record { from = from; to = to; end = to; inner = Code instrs.now ∷ []; handlers = [] }) }
 {
-    let mut inner = Blocks::new(alloc);
+    let mut inner: Blocks = Items::from_vec(Vec::with_capacity(alloc, 1)?);
     inner.push(Block::Code(copied(alloc, instrs)?))?;
     Ok(Span {
         from,
