@@ -17,11 +17,11 @@ use Rattle.machine_laws.proofs.RankLaws.{first_element, later_element}
 use Rattle.machine_laws.proofs.AnswerLaws as answers
 use Rattle.machine_laws.proofs.AnswerLaws.{any_on, filter_on, map_on, each_on, each_filter, Descends, Lower, base_same, interfaces_same, chain_same, chain_old, methods_same, impls_same, interface_same, more_bases, AreClosed}
 
-find_on : {A : Type 0} (f g : A → Bool) (xs : List A) → Each (λ x. f x ≡ g x) xs → find f xs ≡ find g xs
+pub find_on : {A : Type 0} (f g : A → Bool) (xs : List A) → Each (λ x. f x ≡ g x) xs → find f xs ≡ find g xs
 find_on f g [] h = refl
 find_on {A} f g (x ∷ xs) h = ap (λ (b : Bool). cond b (Some x) (find f xs)) h.0 ∙ ap (λ (o : Option A). cond (g x) (Some x) o) (find_on f g xs h.1)
 
-find_each : {A : Type 0} (P : A → Type 0) (test : A → Bool) (xs : List A) (v : A) → Each P xs → find test xs ≡ Some v → P v
+pub find_each : {A : Type 0} (P : A → Type 0) (test : A → Bool) (xs : List A) (v : A) → Each P xs → find test xs ≡ Some v → P v
 find_each P test [] v h e = absurd cc
 find_each {A} P test (x ∷ xs) v h e = go (test x) (λ f. find_each P test xs v h.1 f) e
   where
@@ -29,19 +29,19 @@ find_each {A} P test (x ∷ xs) v h e = go (test x) (λ f. find_each P test xs v
     go true again f = let is : x ≡ v = search (rules, f) in subst P is h.0
     go false again f = again f
 
-first_on : {A B : Type 0} (f g : A → Option B) (xs : List A) → Each (λ x. f x ≡ g x) xs → first_some f xs ≡ first_some g xs
+pub first_on : {A B : Type 0} (f g : A → Option B) (xs : List A) → Each (λ x. f x ≡ g x) xs → first_some f xs ≡ first_some g xs
 first_on f g [] h = refl
 first_on {A} {B} f g (x ∷ xs) h = ap (λ (o : Option B). or_else o (first_some f xs)) h.0 ∙ ap (or_else (g x)) (first_on f g xs h.1)
 
-each_map : {A B : Type 0} (P : A → Type 0) (Q : B → Type 0) (f : A → B) (xs : List A) → ((x : A) → P x → Q (f x)) → Each P xs → Each Q (map f xs)
+pub each_map : {A B : Type 0} (P : A → Type 0) (Q : B → Type 0) (f : A → B) (xs : List A) → ((x : A) → P x → Q (f x)) → Each P xs → Each Q (map f xs)
 each_map P Q f [] h k = k
 each_map P Q f (x ∷ xs) h k = (h x k.0, each_map P Q f xs h k.1)
 
-each_append : {A : Type 0} (P : A → Type 0) (xs ys : List A) → Each P xs → Each P ys → Each P (xs ++ ys)
+pub each_append : {A : Type 0} (P : A → Type 0) (xs ys : List A) → Each P xs → Each P ys → Each P (xs ++ ys)
 each_append P [] ys h k = k
 each_append P (x ∷ xs) ys h k = (h.0, each_append P xs ys h.1 k)
 
-each_reverse : {A : Type 0} (P : A → Type 0) (xs : List A) → Each P xs → Each P (reverse xs)
+pub each_reverse : {A : Type 0} (P : A → Type 0) (xs : List A) → Each P xs → Each P (reverse xs)
 each_reverse P [] h = tt
 each_reverse P (x ∷ xs) h = subst (Each P) (sym (reverse-append (x ∷ []) xs)) (each_append P (reverse xs) (x ∷ []) (each_reverse P xs h.1) (h.0, tt))
 
