@@ -1,6 +1,6 @@
 -- What is known of a type gives its description.
 use Rattle.std.proofs.Common.{◌≡◌, ◌∙◌, ap, refl, arith, ℕ, zero, suc, ◌+◌, ◌-◌, ◌≤◌, ◌<◌, List, [], ◌∷◌, get_or, Bool, true, false}
-use Rattle.std.specs.Prelude.{cond, map, filter, filter_map, Option}
+use Rattle.std.specs.Prelude.{cond, map, filter, filter_map, if◌then◌else◌, Option, None}
 use Rattle.std.specs.List.{range_with_len}
 use Rattle.std.proofs.lemmas.List.FromFn.{get_or-map-range_with_len}
 use Rattle.cil_base.specs.declared.tables.TheConstants.{FIELD, INTERFACE_IMPL, METHOD_DEF, METHOD_IMPL, TYPE_DEF}
@@ -12,9 +12,9 @@ use Rattle.row_descriptions.specs.RowLists.{rows_with, owned}
 use Rattle.descriptions.specs.declared.facts.NamedMember.{NamedMember}
 use Rattle.descriptions.specs.declared.facts.MemberFacts.{MemberFacts}
 use Rattle.descriptions.specs.declared.facts.TypeLists.{TypeLists}
-use Rattle.descriptions.specs.Descriptions.{number_in, method_at, impl_of, impl_at, type_row}
-use Rattle.descriptions.specs.Facts.{AreFacts, method_by, number_of_row}
-use Rattle.descriptions.specs.TypeFacts.{interfaces_by, impl_by, impls_by, numbers_by, type_by, GiveTypes}
+use Rattle.descriptions.specs.Descriptions.{number_in, names_field, impl_method, impl_of, impl_at, type_row}
+use Rattle.descriptions.specs.Facts.{AreFacts, number_of_row}
+use Rattle.descriptions.specs.TypeFacts.{interfaces_by, impl_method_by, impl_by, impls_by, numbers_by, type_by, GiveTypes}
 use Rattle.descriptions.proofs.MeaningLaws.{method_same}
 
 map_filtered : {A : Type 0} (f g : ℕ → A) (test : ℕ → Bool) (a n : ℕ) → ((r : ℕ) → a ≤ r → r < a + n → f r ≡ g r) → map f (filter test (range_with_len a n)) ≡ map g (filter test (range_with_len a n))
@@ -34,10 +34,13 @@ numbers_same numbers g test count e =
     (λ r low high. ap (λ (l : List ℕ). get_or l (r - 1) 0) e ∙ get_or-map-range_with_len g 1 count (r - 1) r 0 (omega (arith, low, high)) (omega (arith, low)))
 
 module _ (s : Assemblies) (a : ℕ) (f : MemberFacts) (h : AreFacts s a f) where
+  impl_method_same : (coded : ℕ) → impl_method_by (assembly_at s a) (coded_in s a) f coded ≡ impl_method s a coded
+  impl_method_same coded = ap (λ (m : Option NamedMember). if names_field (assembly_at s a) coded then None else m) (method_same s a f h coded)
+
   impl_same : (k : ℕ) → impl_by (assembly_at s a) (coded_in s a) f k ≡ impl_at s a k
   impl_same k =
-      ap (λ (m : Option NamedMember). impl_of m (method_by (coded_in s a) f (cell (assembly_at s a) METHOD_IMPL k 2))) (method_same s a f h (cell (assembly_at s a) METHOD_IMPL k 1))
-      ∙ ap (impl_of (method_at s a (cell (assembly_at s a) METHOD_IMPL k 1))) (method_same s a f h (cell (assembly_at s a) METHOD_IMPL k 2))
+      ap (λ (m : Option NamedMember). impl_of m (impl_method_by (assembly_at s a) (coded_in s a) f (cell (assembly_at s a) METHOD_IMPL k 2))) (impl_method_same (cell (assembly_at s a) METHOD_IMPL k 1))
+      ∙ ap (impl_of (impl_method s a (cell (assembly_at s a) METHOD_IMPL k 1))) (impl_method_same (cell (assembly_at s a) METHOD_IMPL k 2))
 
   impls_same : (rows : List ℕ) → impls_by (assembly_at s a) (coded_in s a) f rows ≡ filter_map (impl_at s a) rows
   impls_same rows = ap (λ (g : ℕ → Option Impl). filter_map g rows) (λ i k. impl_same k i)

@@ -1,5 +1,5 @@
 -- The types, fields and methods of a program, each as its row says (ECMA-335, II.22.15, II.22.23, II.22.26, II.22.27, II.22.37).
-use Rattle.std.specs.Prelude.{ℕ, ◌+◌, ◌*◌, ◌/◌, ◌%◌, ◌==◌, Bool, true, false, if◌then◌else◌, List, [], map, filter_map, Option, Some, None, option_map, option_and_then}
+use Rattle.std.specs.Prelude.{ℕ, ◌+◌, ◌*◌, ◌/◌, ◌%◌, ◌==◌, ◌&&◌, Bool, true, false, if◌then◌else◌, List, [], map, filter_map, Option, Some, None, option_map, option_and_then}
 use Rattle.cil_base.specs.declared.tables.TheConstants.{FIELD, INTERFACE_IMPL, MEMBER_REF, METHOD_DEF, METHOD_IMPL, TYPE_DEF}
 use Rattle.cil_model.specs.declared.ty.Ty.{Ty}
 use Rattle.cil_model.specs.declared.ty.Ty.TheVariants as ty
@@ -9,10 +9,10 @@ use Rattle.cil_model.specs.declared.program.MethodDesc.{MethodDesc}
 use Rattle.cil_model.specs.declared.program.Impl.{Impl}
 use Rattle.cil_model.specs.declared.program.Kind.TheVariants.{Class}
 use Rattle.set_names.specs.Names.{Name}
-use Rattle.set_rows.specs.Sets.{Assemblies, assembly_at, is_row, cell, blob, or_empty}
+use Rattle.set_rows.specs.Sets.{Assembly, Assemblies, assembly_at, is_row, cell, blob, or_empty}
 use Rattle.set_rows.specs.Owners.{owner}
 use Rattle.set_types.specs.SignatureTypes.{ty_or}
-use Rattle.set_signatures.specs.Blobs.{method_sig}
+use Rattle.set_signatures.specs.Blobs.{method_sig, is_field_blob}
 use Rattle.set_signatures.specs.Shapes.{signature_numbers}
 use Rattle.set_program.specs.declared.identity.TypeId.{TypeId}
 use Rattle.set_program.specs.declared.identity.TypeId.TheVariants as type_id
@@ -76,8 +76,16 @@ impl_of None d = None
 impl_of (Some b) None = None
 impl_of (Some b) (Some d) = Some (record { owner = d.owner; body = b.number; declaration = d.number })
 
+-- a MethodDefOrRef index of a MemberRef row with a field's signature
+abbrev pub names_field : Assembly → ℕ → Bool
+names_field x coded = (coded % 2 == 1) && is_field_blob (blob x MEMBER_REF (coded / 2) 2)
+
+-- the method that an index of a MethodImpl row names; a field is none (II.22.27)
+abbrev pub impl_method : Assemblies → ℕ → ℕ → Option NamedMember
+impl_method s a coded = if names_field (assembly_at s a) coded then None else method_at s a coded
+
 abbrev pub impl_at : Assemblies → ℕ → ℕ → Option Impl
-impl_at s a k = impl_of (method_at s a (cell (assembly_at s a) METHOD_IMPL k 1)) (method_at s a (cell (assembly_at s a) METHOD_IMPL k 2))
+impl_at s a k = impl_of (impl_method s a (cell (assembly_at s a) METHOD_IMPL k 1)) (impl_method s a (cell (assembly_at s a) METHOD_IMPL k 2))
 
 -- the type that an attribute of a type names
 abbrev pub attributed : Assemblies → ℕ → Name → ℕ → Option ℕ

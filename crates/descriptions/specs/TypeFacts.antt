@@ -1,5 +1,5 @@
 -- A type by what is known of its assembly and of it (ECMA-335, II.22.23, II.22.27, II.22.37).
-use Rattle.std.specs.Prelude.{◌≡◌, ℕ, ◌*◌, ◌≤◌, false, List, [], map, filter_map, get_or, Option, option_and_then}
+use Rattle.std.specs.Prelude.{◌≡◌, ℕ, ◌*◌, ◌≤◌, false, if◌then◌else◌, List, [], map, filter_map, get_or, Option, None, option_and_then}
 use Rattle.cil_base.specs.declared.tables.TheConstants.{FIELD, INTERFACE_IMPL, METHOD_DEF, METHOD_IMPL, TYPE_DEF}
 use Rattle.cil_model.specs.declared.ty.Ty.{Ty}
 use Rattle.cil_model.specs.declared.program.Impl.{Impl}
@@ -13,19 +13,24 @@ use Rattle.set_program.specs.Environment.{coded_in, number_of}
 use Rattle.set_program.specs.Kinds.{kind_at, generics}
 use Rattle.member_table.specs.Environments.{coded_ty_at}
 use Rattle.row_descriptions.specs.RowLists.{rows_with, owned}
+use Rattle.descriptions.specs.declared.facts.NamedMember.{NamedMember}
 use Rattle.descriptions.specs.declared.facts.MemberFacts.{MemberFacts}
 use Rattle.descriptions.specs.declared.facts.TypeLists.{TypeLists}
 use Rattle.descriptions.specs.declared.facts.TypeFacts.{TypeFacts}
-use Rattle.descriptions.specs.Descriptions.{impl_of, attributed, type_row}
+use Rattle.descriptions.specs.Descriptions.{impl_of, names_field, attributed, type_row}
 use Rattle.descriptions.specs.Facts.{AreFacts, method_by, number_of_row}
 
 -- the types that InterfaceImpl rows name
 abbrev pub interfaces_by : Assembly → Coded → List ℕ → List Ty
 interfaces_by x c rows = filter_map (λ k. coded_ty_at c (cell x INTERFACE_IMPL k 1)) rows
 
+-- the method that an index of a MethodImpl row names
+abbrev pub impl_method_by : Assembly → Coded → MemberFacts → ℕ → Option NamedMember
+impl_method_by x c f coded = if names_field x coded then None else method_by c f coded
+
 -- what a MethodImpl row says
 abbrev pub impl_by : Assembly → Coded → MemberFacts → ℕ → Option Impl
-impl_by x c f k = impl_of (method_by c f (cell x METHOD_IMPL k 1)) (method_by c f (cell x METHOD_IMPL k 2))
+impl_by x c f k = impl_of (impl_method_by x c f (cell x METHOD_IMPL k 1)) (impl_method_by x c f (cell x METHOD_IMPL k 2))
 
 abbrev pub impls_by : Assembly → Coded → MemberFacts → List ℕ → List Impl
 impls_by x c f rows = filter_map (impl_by x c f) rows

@@ -6,17 +6,18 @@ ghost use Rattle.descriptions.specs.declared.facts.MemberFacts.{MemberFacts};
 ghost use Rattle.descriptions.specs.declared.facts.TypeLists.{TypeLists};
 ghost use Rattle.set_types.specs.CodedTypes.{coded_of};
 ghost use Rattle.member_table.specs.Environments.{coded_ty_at};
-ghost use Rattle.descriptions.specs.Descriptions.{outside_type, impl_of};
-ghost use Rattle.descriptions.specs.TypeFacts.{interfaces_by, impl_by, impls_by, numbers_by, AreTypeLists, type_by, GiveTypes};
+ghost use Rattle.descriptions.specs.Descriptions.{outside_type, impl_of, names_field};
+ghost use Rattle.descriptions.specs.TypeFacts.{interfaces_by, impl_method_by, impl_by, impls_by, numbers_by, AreTypeLists, type_by, GiveTypes};
 
 use crate::coded::{copied, type_of_spec};
 use crate::facts::{MemberFacts, NamedMember, TypeFacts, TypeLists};
 use crate::meanings::{method_by, number_of_row};
-use cil_base::tables::{FIELD, INTERFACE_IMPL, METHOD_DEF, METHOD_IMPL, TYPE_DEF};
+use cil_base::tables::{FIELD, INTERFACE_IMPL, MEMBER_REF, METHOD_DEF, METHOD_IMPL, TYPE_DEF};
 use cil_base::{Name, U32s};
 use cil_model::{Impl, Impls, Kind, Ty, TypeDesc, Tys};
 use row_descriptions::{owned_rows, rows_by_cell};
 use set_rows::Rows;
+use set_signatures::is_field_blob;
 use set_types::CodedTypes;
 use std::alloc::{AllocError, Global};
 
@@ -71,6 +72,29 @@ fn impl_of(body: Option<NamedMember>, declaration: Option<NamedMember>) -> Optio
     }
 }
 
+/// Whether a MethodDefOrRef index leads to a MemberRef row with a field's signature.
+fn names_field(rows: &Rows<'_>, index: u32) -> bool
+    ensures { result ≡ names_field rows.now index }
+{
+    index % 2 == 1 && is_field_blob(rows.blob(MEMBER_REF, index / 2, 2))
+}
+
+/// The method that an index of a MethodImpl row names.
+fn impl_method(
+    alloc: Global,
+    rows: &Rows<'_>,
+    coded: &CodedTypes,
+    facts: &MemberFacts,
+    index: u32,
+) -> Result<Option<NamedMember>, AllocError>
+    ensures { IfOk result (λ m. m ≡ impl_method_by rows.now (coded_of coded.now) facts.now index) }
+{
+    if names_field(rows, index) {
+        return Ok(None);
+    }
+    method_by(alloc, coded, facts, index)
+}
+
 /// What a MethodImpl row says; None where one of its methods isn't there.
 fn impl_at(
     alloc: Global,
@@ -81,8 +105,8 @@ fn impl_at(
 ) -> Result<Option<Impl>, AllocError>
     ensures { IfOk result (λ i. i ≡ impl_by rows.now (coded_of coded.now) facts.now k) }
 {
-    let body = method_by(alloc, coded, facts, rows.cell(METHOD_IMPL, k, 1))?;
-    let declaration = method_by(alloc, coded, facts, rows.cell(METHOD_IMPL, k, 2))?;
+    let body = impl_method(alloc, rows, coded, facts, rows.cell(METHOD_IMPL, k, 1))?;
+    let declaration = impl_method(alloc, rows, coded, facts, rows.cell(METHOD_IMPL, k, 2))?;
     Ok(impl_of(body, declaration))
 }
 

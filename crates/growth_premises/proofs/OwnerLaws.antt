@@ -269,7 +269,7 @@ module _ (x : Assembly) (xs : Assemblies) where
 
   pub numbers_owners : NumbersOwners s
   numbers_owners a row m low high e =
-      subst IfOutside e (named_as s IfOutside a row tt (λ f r. tt) (λ t y is g. by_parent t is))
+      subst IfOutside e (named_as s IfOutside a row tt (λ f r k. tt) (λ t y is g. by_parent t is))
     where
       by_parent : (t : Option Ty) → (t ≡ None) ⊎ (t ≡ parent_type (assembly_at s a) (coded_in s a) row) → Numbered (owner_name t)
       by_parent t (inl f) = subst (λ (o : Option Ty). Numbered (owner_name o)) (sym f) no_type

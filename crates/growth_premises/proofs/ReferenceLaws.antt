@@ -94,7 +94,18 @@ module _ (s : Assemblies) where
       go None f g again = absurd cc
       go (Some t) f g again = by_has again t f (nat_lt t.assembly (length s)) g
 
-  module _ (P : Named → Type 0) (a row : ℕ) (missing : P named.Missing) (found : (f : Found) → IsRange f → P (named.InSet f))
+  -- the kind of a row's signature
+  abbrev kind_at : ℕ → ℕ → Bool
+  kind_at a row = is_field_blob (blob (assembly_at s a) MEMBER_REF row 2)
+
+  shape_kind : (a row : ℕ) (y : Shape) → reference_shape (assembly_at s a) (coded_in s a) row ≡ Some y → y.is_field ≡ kind_at a row
+  shape_kind a row y h = go (signature_numbers (coded_in s a) [] (blob (assembly_at s a) MEMBER_REF row 2)) h
+    where
+      go : (o : Spelled) → option_map (λ (numbers : List ℕ). record { name = text (assembly_at s a) MEMBER_REF row 1; is_field = kind_at a row; signature = numbers }) o ≡ Some y → y.is_field ≡ kind_at a row
+      go None g = absurd cc
+      go (Some numbers) g = sym (ap (λ (p : Option Shape). (unwrap_or p y).is_field) g)
+
+  module _ (P : Named → Type 0) (a row : ℕ) (missing : P named.Missing) (found : (f : Found) → IsRange f → (f.is_field ≡ true → kind_at a row ≡ true) → P (named.InSet f))
       (outside : (t : Option Ty) (y : Shape) → (t ≡ None) ⊎ (t ≡ parent_type (assembly_at s a) (coded_in s a) row) → reference_shape (assembly_at s a) (coded_in s a) row ≡ Some y → P (named.Outside (record { owner = owner_name t; shape = y }))) where
     abbrev shape : Option Shape
     shape = reference_shape (assembly_at s a) (coded_in s a) row
@@ -106,28 +117,29 @@ module _ (s : Assemblies) where
     by_outside t None is h = missing
     by_outside t (Some y) is h = outside t y is h
 
-    by_slot : (y : Shape) (q : ℕ × ℕ) → Holds y q → (u : Option Ty) (d : Option SetType) → slice_get (set_types s) q.0 ≡ d → P (found_or_missing (found_in_type y.is_field q.1 u d))
-    by_slot y q h None d f = missing
-    by_slot y q h (Some u) None f = missing
-    by_slot y q h (Some u) (Some d) f =
+    by_slot : (y : Shape) (q : ℕ × ℕ) → shape ≡ Some y → Holds y q → (u : Option Ty) (d : Option SetType) → slice_get (set_types s) q.0 ≡ d → P (found_or_missing (found_in_type y.is_field q.1 u d))
+    by_slot y q is h None d f = missing
+    by_slot y q is h (Some u) None f = missing
+    by_slot y q is h (Some u) (Some d) f =
         let same : h.type ≡ d = same_type h.type d (sym h.there ∙ f) in
         found (record { owner = u; is_field = y.is_field; assembly = d.assembly; row = q.1 })
         (h.low, subst (λ (t : SetType). q.1 ≤ count_in (assembly_at s t.assembly) (member_table y.is_field)) same h.high)
+        (λ field. sym (shape_kind a row y is) ∙ field)
       where
         same_type : (t u : SetType) → Some t ≡ Some u → t ≡ u
         same_type t u g = ap (λ (o : Option SetType). unwrap_or o t) g
 
-    by_within : (t : Ty) (y : Shape) (o : Option (ℕ × ℕ)) → ((q : ℕ × ℕ) → o ≡ Some q → Holds y q) → P (found_or_missing (option_and_then (found_at e y.is_field t) o))
-    by_within t y None h = missing
-    by_within t y (Some q) h = by_slot y q (h q refl) (seen_within e q.0 (length (set_types s)) t) (slice_get (set_types s) q.0) refl
+    by_within : (t : Ty) (y : Shape) (o : Option (ℕ × ℕ)) → shape ≡ Some y → ((q : ℕ × ℕ) → o ≡ Some q → Holds y q) → P (found_or_missing (option_and_then (found_at e y.is_field t) o))
+    by_within t y None is h = missing
+    by_within t y (Some q) is h = by_slot y q is (h q refl) (seen_within e q.0 (length (set_types s)) t) (slice_get (set_types s) q.0) refl
 
-    by_shape : (t : Ty) (k : ℕ) (o : Option Shape) → P (found_or_missing (option_and_then (found_from e t k) o))
-    by_shape t k None = missing
-    by_shape t k (Some y) = by_within t y (found_within e y (length (set_types s)) [] k) (λ q h. holds y (length (set_types s)) [] k q h)
+    by_shape : (t : Ty) (k : ℕ) (o : Option Shape) → shape ≡ o → P (found_or_missing (option_and_then (found_from e t k) o))
+    by_shape t k None f = missing
+    by_shape t k (Some y) f = by_within t y (found_within e y (length (set_types s)) [] k) f (λ q h. holds y (length (set_types s)) [] k q h)
 
     by_definition : (t : Ty) (d : Option (ℕ × List Ty)) → IsParent (Some t) → P (of_type e shape t d)
     by_definition t None is = by_outside (Some t) shape is refl
-    by_definition t (Some d) is = by_shape t d.0 shape
+    by_definition t (Some d) is = by_shape t d.0 shape refl
 
     by_parent : (o : Option Ty) → o ≡ parent_type (assembly_at s a) (coded_in s a) row → P (of_parent e shape o)
     by_parent None is = by_outside None shape (inl refl) refl
@@ -142,7 +154,7 @@ module _ (s : Assemblies) where
         to_type h (Some t) = found (method_found a k t) (
           lt_from 0 k (both_left (nat_lt 0 k) (Rattle.std.specs.Prelude.nat_le k (count_in (assembly_at s a) METHOD_DEF)) h),
           le_from k (count_in (assembly_at s a) METHOD_DEF) (both_right (nat_lt 0 k) (Rattle.std.specs.Prelude.nat_le k (count_in (assembly_at s a) METHOD_DEF)) h),
-        )
+        ) (λ is. absurd cc)
 
         go : (b : Bool) → is_row (assembly_at s a) METHOD_DEF k ≡ b
             → P (found_or_missing (option_map (method_found a k) (option_and_then (λ r. (coded_in s a).named (r * 4)) (if b then find (owns (assembly_at s a) 5 METHOD_DEF k) (rows_in (assembly_at s a) TYPE_DEF) else None))))
@@ -168,22 +180,27 @@ module _ (s : Assemblies) where
   IfFound _ = Unit {0}
 
   found_row : (a row : ℕ) (f : Found) → member s a row ≡ named.InSet f → IsRange f
-  found_row a row f h = subst IfFound h (named_as IfFound a row tt (λ f r. r) (λ t y is g. tt))
+  found_row a row f h = subst IfFound h (named_as IfFound a row tt (λ f r k. r) (λ t y is g. tt))
 
   abbrev IfKind : ℕ → ℕ → Named → Type 0
-  IfKind a row (named.Outside m) = m.shape.is_field ≡ is_field_blob (blob (assembly_at s a) MEMBER_REF row 2)
+  IfKind a row (named.Outside m) = m.shape.is_field ≡ kind_at a row
   IfKind a row _ = Unit {0}
 
-  shape_kind : (a row : ℕ) (y : Shape) → reference_shape (assembly_at s a) (coded_in s a) row ≡ Some y → y.is_field ≡ is_field_blob (blob (assembly_at s a) MEMBER_REF row 2)
-  shape_kind a row y h = go (signature_numbers (coded_in s a) [] (blob (assembly_at s a) MEMBER_REF row 2)) h
-    where
-      go : (o : Spelled) → option_map (λ (numbers : List ℕ). record { name = text (assembly_at s a) MEMBER_REF row 1; is_field = is_field_blob (blob (assembly_at s a) MEMBER_REF row 2); signature = numbers }) o ≡ Some y
-          → y.is_field ≡ is_field_blob (blob (assembly_at s a) MEMBER_REF row 2)
-      go None g = absurd cc
-      go (Some numbers) g = sym (ap (λ (p : Option Shape). (unwrap_or p y).is_field) g)
+  outside_kind : (a row : ℕ) (m : OutsideMember) → member s a row ≡ named.Outside m → m.shape.is_field ≡ kind_at a row
+  outside_kind a row m h = subst (IfKind a row) h (named_as (IfKind a row) a row tt (λ f r k. tt) (λ t y is g. shape_kind a row y g))
 
-  outside_kind : (a row : ℕ) (m : OutsideMember) → member s a row ≡ named.Outside m → m.shape.is_field ≡ is_field_blob (blob (assembly_at s a) MEMBER_REF row 2)
-  outside_kind a row m h = subst (IfKind a row) h (named_as (IfKind a row) a row tt (λ f r. tt) (λ t y is g. shape_kind a row y g))
+  -- a row without a field's signature names no field
+  abbrev pub IfMethod : Named → Type 0
+  IfMethod (named.InSet f) = f.is_field ≡ false
+  IfMethod (named.Outside m) = m.shape.is_field ≡ false
+  IfMethod named.Missing = Unit {0}
+
+  pub names_method : (a row : ℕ) → is_field_blob (blob (assembly_at s a) MEMBER_REF row 2) ≡ false → IfMethod (member s a row)
+  names_method a row h = named_as IfMethod a row tt (λ f r k. no_field f.is_field k) (λ t y is g. shape_kind a row y g ∙ h)
+    where
+      no_field : (b : Bool) → (b ≡ true → kind_at a row ≡ true) → b ≡ false
+      no_field true k = absurd (let wrong : false ≡ true = sym h ∙ k refl in cc)
+      no_field false k = refl
 
   -- ---- members outside, by the rows that name them
 

@@ -1,7 +1,8 @@
 -- Old types, fields and methods as their rows say, where rows are appended.
-use Rattle.std.proofs.Common.{◌≡◌, ◌∙◌, sym, ap, refl, subst, arith, rules, ℕ, zero, suc, ◌+◌, ◌*◌, ◌<◌, ◌≤◌, List, [], ◌∷◌, ◌++◌, length, Bool, true, false}
-use Rattle.std.specs.Prelude.{cond, find, map, ◌==◌, ◌/◌, ◌%◌, ◌||◌, not, is_some, is_none, Option, Some, None, option_map, option_and_then, option_to_list, filter, filter_map, if◌then◌else◌}
+use Rattle.std.proofs.Common.{◌≡◌, ◌∙◌, sym, ap, refl, subst, arith, rules, ℕ, zero, suc, ◌+◌, ◌*◌, ◌<◌, ◌≤◌, List, [], ◌∷◌, ◌++◌, length, Bool, true, false, ◌⊎◌, inl, inr}
+use Rattle.std.specs.Prelude.{cond, find, map, ◌==◌, ◌/◌, ◌%◌, ◌||◌, ◌&&◌, not, is_some, is_none, Option, Some, None, option_map, option_and_then, option_to_list, filter, filter_map, if◌then◌else◌}
 use Rattle.std.specs.List.{range_with_len, cons_option}
+use Rattle.std.proofs.lemmas.Bool.{cases_lt, eqb-true}
 use Rattle.cil_base.specs.declared.tables.TheConstants.{FIELD, GENERIC_PARAM, INTERFACE_IMPL, MEMBER_REF, METHOD_DEF, METHOD_IMPL, TYPE_DEF}
 use Rattle.cil_model.specs.declared.ty.Ty.{Ty}
 use Rattle.cil_model.specs.declared.ty.Ty.TheVariants as ty
@@ -34,13 +35,14 @@ use Rattle.row_descriptions.specs.declared.methods.Parameters.{Parameters}
 use Rattle.row_descriptions.specs.RowLists.{is_owner, rows_with, owned}
 use Rattle.row_descriptions.specs.RowDescriptions.{two_bytes, field_ty, field_row, gives_this, parameters_of, method_row}
 use Rattle.descriptions.specs.declared.facts.NamedMember.{NamedMember}
-use Rattle.descriptions.specs.Descriptions.{number_in, method_at, impl_of, impl_at, type_row, outside_type, type_desc, outside_ty, field_desc, outside_parameters, method_desc}
+use Rattle.descriptions.specs.Descriptions.{number_in, method_at, impl_of, names_field, impl_method, impl_at, type_row, outside_type, type_desc, outside_ty, field_desc, outside_parameters, method_desc}
 use Rattle.set_growth.specs.Grown.{gains, KeepsRows, KeepsAccess, IsGrown, SaysAlike}
 use Rattle.set_growth.specs.Orderly.{IsOrderly}
+use Rattle.set_growth.proofs.FindLaws.{differs}
 use Rattle.set_growth.proofs.GrowthLists.{Each}
 use Rattle.set_growth.proofs.KeptTypeLaws.{fun_same}
 use Rattle.set_growth.proofs.KeptNameLaws.{enclosing_same, full_name_same, owned_same}
-use Rattle.program_growth.specs.Rules.{IsNamed, IsRowOf, IsNumbered, IsDescribed, IsOutside, IsMember, HasPlaces}
+use Rattle.program_growth.specs.Rules.{IsNamed, IsRowOf, IsNumbered, IsMethodIndex, IsDescribed, IsOutside, IsMember, HasPlaces}
 use Rattle.program_growth.specs.Kept.{ExtendsCoded, KeepsDescriptions}
 use Rattle.program_growth.proofs.KeptCodedLaws.{MethodKept, method_kept, or_first, coded_stays, ty_same, old_text, old_blob, old_cell}
 use Rattle.program_growth.proofs.SignatureLaws.{keeps_signatures}
@@ -297,12 +299,34 @@ module _ (x x' : Assembly) (xs : Assemblies) (grown : IsGrown x x') (access : Ke
       (each_with (λ k. g k ≡ f k) a INTERFACE_IMPL 0 row
       (λ k low high. ap (ty_at s' a) (same_cell a INTERFACE_IMPL k 1 refl) ∙ ty_same x x' xs grown orderly named numbered alike a (cell (assembly_at s a) INTERFACE_IMPL k 1) (described.interfaces a k low high)))
 
+  names_field_same : (a coded : ℕ) → (1 ≤ coded / 2 → IsMethodIndex s a coded) → names_field (assembly_at s' a) coded ≡ names_field (assembly_at s a) coded
+  names_field_same a coded index = go (coded % 2 == 1) refl
+    where
+      old_row : (coded % 2 == 1) ≡ true → coded / 2 ≤ count_in (assembly_at s a) MEMBER_REF
+      old_row e = by_row (cases_lt (coded / 2) 1)
+        where
+          odd : coded % 2 ≡ 1
+          odd = eqb-true (coded % 2) 1 e
+
+          by_row : (coded / 2 < 1) ⊎ (1 ≤ coded / 2) → coded / 2 ≤ count_in (assembly_at s a) MEMBER_REF
+          by_row (inl l) = omega (arith, l)
+          by_row (inr l) = let index : IsMethodIndex s a coded = index l in index.reference (differs (coded % 2) 0 (λ f. omega (arith, f, odd)))
+
+      go : (b : Bool) → (coded % 2 == 1) ≡ b → (b && is_field_blob (blob (assembly_at s' a) MEMBER_REF (coded / 2) 2)) ≡ (b && is_field_blob (blob (assembly_at s a) MEMBER_REF (coded / 2) 2))
+      go true e = ap is_field_blob (old_blob x x' xs grown orderly named numbered alike a MEMBER_REF (coded / 2) 2 refl (old_row e))
+      go false e = refl
+
+  impl_method_same : (a coded : ℕ) → (1 ≤ coded / 2 → IsMethodIndex s a coded) → impl_method s' a coded ≡ impl_method s a coded
+  impl_method_same a coded index =
+      ap (λ (b : Bool). if b then None else method_at s' a coded) (names_field_same a coded index)
+      ∙ ap (λ (o : Option NamedMember). if names_field (assembly_at s a) coded then None else o) (method_index_same x x' xs grown orderly named numbered alike placed a coded index)
+
   impl_same : (a k : ℕ) → 1 ≤ k → k ≤ count_in (assembly_at s a) METHOD_IMPL → impl_at s' a k ≡ impl_at s a k
   impl_same a k low high =
-      ap (λ (o : Option NamedMember). impl_of o (method_at s' a (cell (assembly_at s' a) METHOD_IMPL k 2)))
-      (ap (method_at s' a) (same_cell a METHOD_IMPL k 1 refl) ∙ method_index_same x x' xs grown orderly named numbered alike placed a (cell (assembly_at s a) METHOD_IMPL k 1) (described.bodies a k low high))
-      ∙ ap (impl_of (method_at s a (cell (assembly_at s a) METHOD_IMPL k 1)))
-      (ap (method_at s' a) (same_cell a METHOD_IMPL k 2 refl) ∙ method_index_same x x' xs grown orderly named numbered alike placed a (cell (assembly_at s a) METHOD_IMPL k 2) (described.declarations a k low high))
+      ap (λ (o : Option NamedMember). impl_of o (impl_method s' a (cell (assembly_at s' a) METHOD_IMPL k 2)))
+      (ap (impl_method s' a) (same_cell a METHOD_IMPL k 1 refl) ∙ impl_method_same a (cell (assembly_at s a) METHOD_IMPL k 1) (described.bodies a k low high))
+      ∙ ap (impl_of (impl_method s a (cell (assembly_at s a) METHOD_IMPL k 1)))
+      (ap (impl_method s' a) (same_cell a METHOD_IMPL k 2 refl) ∙ impl_method_same a (cell (assembly_at s a) METHOD_IMPL k 2) (described.declarations a k low high))
 
   impls_same : (a row : ℕ) → filter_map (impl_at s' a) (rows_with (assembly_at s' a) METHOD_IMPL 0 row) ≡ filter_map (impl_at s a) (rows_with (assembly_at s a) METHOD_IMPL 0 row)
   impls_same a row =

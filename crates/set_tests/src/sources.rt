@@ -53,6 +53,9 @@ fn rows_name_sources(rt: HostRuntime) -> Result<(), Fault> {
     assert!(rt; sources_are(alloc, &[A, TYPES, N, FOR_J, FOR_I, I_THEN_J], 3, &[1, 2, 3])?);
     // A row for an interface that the type doesn't name itself gives no source.
     assert!(rt; sources_are(alloc, &[A, TYPES, N, FOR_J], 3, &[3])?);
+    // A row that names a field of D gives none.
+    const OF_FIELD: &str = "Field 6, f, 06 08\nMemberRef 40, f, 06 08\nMethodImpl 5, 8, 3";
+    assert!(rt; sources_are(alloc, &[A, TYPES, N, OF_FIELD], 3, &[3])?);
     // By rows first, then by name; each once.
     const K: &str = "MethodDef :06 2A, 0, 0x146, K, 20 00 01, 1";
     const OF_B: &str = "TypeDef 1, B, -, 0, 1, 1\nTypeDef 1, D, -, 8, 1, 3";
