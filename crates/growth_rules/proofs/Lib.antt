@@ -14,3 +14,4 @@ pub mod OutsideRankLaws
 pub mod HeightLaws
 pub mod AboveLaws
 pub mod RankedLaws
+pub mod OwnNameLaws

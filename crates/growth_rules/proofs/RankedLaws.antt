@@ -28,10 +28,10 @@ use Rattle.growth_rules.proofs.AboveLaws as rows
 use Rattle.growth_rules.proofs.HeightLaws as heights
 use Rattle.growth_rules.proofs.OutsideRankLaws.{IsLow, layer_rank, built_in_low, layer_few, contract_low, object_low}
 
-same_number : (k : ℕ) → (k == k) ≡ true
+pub same_number : (k : ℕ) → (k == k) ≡ true
 same_number k = search rules
 
-left_among : (xs ys : List ℕ) (j : ℕ) → is_among xs j ≡ true → is_among (xs ++ ys) j ≡ true
+pub left_among : (xs ys : List ℕ) (j : ℕ) → is_among xs j ≡ true → is_among (xs ++ ys) j ≡ true
 left_among [] ys j e = absurd cc
 left_among (x ∷ xs) ys j e = go (x == j) e (λ h. left_among xs ys j h)
   where
@@ -39,7 +39,7 @@ left_among (x ∷ xs) ys j e = go (x == j) e (λ h. left_among xs ys j h)
     go true f later = refl
     go false f later = later f
 
-right_among : (xs ys : List ℕ) (j : ℕ) → is_among ys j ≡ true → is_among (xs ++ ys) j ≡ true
+pub right_among : (xs ys : List ℕ) (j : ℕ) → is_among ys j ≡ true → is_among (xs ++ ys) j ≡ true
 right_among [] ys j e = e
 right_among (x ∷ xs) ys j e = go (x == j) (right_among xs ys j e)
   where
@@ -52,7 +52,7 @@ mapped f [] k = refl
 mapped f (x ∷ xs) zero = refl
 mapped f (x ∷ xs) (suc k) = mapped f xs k
 
-mapped_length : {A B : Type 0} (f : A → B) (xs : List A) → length (map f xs) ≡ length xs
+pub mapped_length : {A B : Type 0} (f : A → B) (xs : List A) → length (map f xs) ≡ length xs
 mapped_length f [] = refl
 mapped_length f (x ∷ xs) = ap (λ (n : ℕ). suc n) (mapped_length f xs)
 
@@ -82,7 +82,7 @@ module _ (x : Assembly) (xs : Assemblies) (kept : KeepsRules (x ∷ xs)) where
   abbrev own : ℕ → ℕ
   own k = row_number (row_of_number s k) k
 
-  abbrev height : ℕ → ℕ
+  abbrev pub height : ℕ → ℕ
   height k = heights.height (above s) n (own k)
 
   own_is : (a r k : ℕ) → number_of s (id.Row a r) ≡ Some k → own k ≡ k
@@ -142,22 +142,22 @@ module _ (x : Assembly) (xs : Assemblies) (kept : KeepsRules (x ∷ xs)) where
 
   -- ---- a type of the list by its row
 
-  desc_at : (k : ℕ) (o : Option TypeId) → slice_get (types_of s) k ≡ o → type_of p k ≡ unwrap_or (option_map (type_desc s) o) contract_exception
+  pub desc_at : (k : ℕ) (o : Option TypeId) → slice_get (types_of s) k ≡ o → type_of p k ≡ unwrap_or (option_map (type_desc s) o) contract_exception
   unfolding program_of
   desc_at k o e = ap (λ (d : Option TypeDesc). unwrap_or d contract_exception) (mapped (type_desc s) (types_of s) k ∙ ap (option_map (type_desc s)) e)
 
-  types_count : length p.types ≡ n
+  pub types_count : length p.types ≡ n
   unfolding program_of
   types_count = mapped_length (type_desc s) (types_of s)
 
   -- a row's number, and what it leads to
-  record HasRow (k a r : ℕ) : Type 0 where
-    itself : ℕ
-    number : number_of s (id.Row a r) ≡ Some itself
-    falls : (j : ℕ) → is_among (rows.row_above x xs a r) j ≡ true → height j < height k
-    same : height itself ≡ height k
+  pub record HasRow (k a r : ℕ) : Type 0 where
+    pub itself : ℕ
+    pub number : number_of s (id.Row a r) ≡ Some itself
+    pub falls : (j : ℕ) → is_among (rows.row_above x xs a r) j ≡ true → height j < height k
+    pub same : height itself ≡ height k
 
-  has_row : (k a r : ℕ) → slice_get (types_of s) k ≡ Some (id.Row a r) → HasRow k a r
+  pub has_row : (k a r : ℕ) → slice_get (types_of s) k ≡ Some (id.Row a r) → HasRow k a r
   has_row k a r e = go (number_of s (id.Row a r)) refl (rows.row_has_number x xs k a r e)
     where
       here : row_of_number s k ≡ Some (a, r)
@@ -185,7 +185,7 @@ module _ (x : Assembly) (xs : Assemblies) (kept : KeepsRules (x ∷ xs)) where
               let right : height k ≡ heights.height (above s) n i = ap (heights.height (above s) n) mine in
               omega (arith, less, left, right)
 
-  itself_is : (a r i : ℕ) → number_of s (id.Row a r) ≡ Some i → own_number s a r ≡ i ∷ []
+  pub itself_is : (a r i : ℕ) → number_of s (id.Row a r) ≡ Some i → own_number s a r ≡ i ∷ []
   itself_is a r i f = ap option_to_list f
 
   -- ---- ranks

@@ -29,6 +29,8 @@ use Rattle.growth_rules.specs.Sound.{IsSound}
 use Rattle.growth_rules.specs.Appended.{IsAppended}
 use Rattle.growth_rules.proofs.NestingLaws.{has_name}
 use Rattle.growth_rules.proofs.NewTypeLaws.{names_none}
+use Rattle.growth_rules.proofs.OwnNameLaws.{names_own}
+use Rattle.growth_rules.proofs.RankedLaws.{ranked}
 use Rattle.growth_rules.proofs.RowIndexLaws.{bases, interfaces, parents, bodies, declarations, instances, has_attributes}
 use Rattle.growth_rules.proofs.SoundBlobLaws.{specs, field_blobs, method_blobs}
 use Rattle.growth_rules.proofs.SoundRowLaws.{keeps_rules, no_runtime}
@@ -99,20 +101,23 @@ module _ (x : Assembly) (xs : Assemblies) (sound : IsSound (x ∷ xs)) where
   pub target_attributes : HasAttributes x
   target_attributes = has_attributes x read
 
+  named : IsNamed s
+  named = is_named s kept (has_indexes s sound)
+
+  described : IsDescribed s
+  described = is_described s kept (has_method_indexes s sound)
+
+  placed : HasPlaces s
+  placed = has_places x xs is_orderly (nests s sound) (all_references x xs is_orderly)
+
+  pub sound_names_own : NamesOwn (program_of s)
+  sound_names_own = names_own x xs kept placed described
+
   -- ---- where rows are appended
 
   module _ (x' : Assembly) (appended : IsAppended x x' xs) where
     alike : SaysAlike s (x' ∷ xs)
     alike = says_alike x x' xs appended.rows is_orderly kept target_attributes appended.values
-
-    named : IsNamed s
-    named = is_named s kept (has_indexes s sound)
-
-    described : IsDescribed s
-    described = is_described s kept (has_method_indexes s sound)
-
-    placed : HasPlaces s
-    placed = has_places x xs is_orderly (nests s sound) (all_references x xs is_orderly)
 
     pub sound_keeps : KeepsProgram (program_of s) (program_of (x' ∷ xs))
     sound_keeps = keeps_program x x' xs appended.rows appended.access appended.texts is_orderly named (is_numbered x xs) alike described placed
@@ -120,7 +125,8 @@ module _ (x : Assembly) (xs : Assemblies) (sound : IsSound (x ∷ xs)) where
     none_named : NamesNone (program_of s) (program_of (x' ∷ xs))
     none_named = names_none x x' xs appended.rows is_orderly named.references alike.attributes (interface_classes x read)
 
-    pub sound_extends : Ranked (program_of s) → NamesOwn (program_of s) → Extends (program_of s) (program_of (x' ∷ xs))
-    sound_extends ranked own =
-        extends x x' xs appended.rows appended.access appended.texts is_orderly named (is_numbered x xs) alike described placed ranked
-        (grown_ranked (program_of s) (program_of (x' ∷ xs)) sound_keeps ranked own none_named appended.bases)
+    pub sound_extends : Extends (program_of s) (program_of (x' ∷ xs))
+    sound_extends =
+        let above : Ranked (program_of s) = ranked x xs kept in
+        extends x x' xs appended.rows appended.access appended.texts is_orderly named (is_numbered x xs) alike described placed above
+        (grown_ranked (program_of s) (program_of (x' ∷ xs)) sound_keeps above sound_names_own none_named appended.bases)

@@ -77,6 +77,11 @@ pub fn sound_set_is_ranked()
     ensures { (x : Assembly) (xs : List Assembly) → IsSound (x ∷ xs) → Ranked (program_of (x ∷ xs)) }
 {}
 
+/// The types of the program of a set name bases, interfaces, fields and methods of the program (N1 to N3).
+pub fn sound_set_names_own()
+    ensures { (x : Assembly) (xs : List Assembly) → IsSound (x ∷ xs) → NamesOwn (program_of (x ∷ xs)) }
+{}
+
 /// The program of a set to whose TARGET rows are appended has the old descriptions at the old numbers,
 /// but for bodies and access, and old tokens mean the same.
 pub fn sound_set_keeps_program()
@@ -85,5 +90,5 @@ pub fn sound_set_keeps_program()
 
 /// It extends the program of the set.
 pub fn sound_set_extends()
-    ensures { (x : Assembly) (xs : List Assembly) → IsSound (x ∷ xs) → (x' : Assembly) → IsAppended x x' xs → NamesOwn (program_of (x ∷ xs)) → Extends (program_of (x ∷ xs)) (program_of (x' ∷ xs)) }
+    ensures { (x : Assembly) (xs : List Assembly) → IsSound (x ∷ xs) → (x' : Assembly) → IsAppended x x' xs → Extends (program_of (x ∷ xs)) (program_of (x' ∷ xs)) }
 {}

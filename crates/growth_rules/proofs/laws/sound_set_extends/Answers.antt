@@ -1,8 +1,5 @@
-use Rattle.std.specs.Prelude.{◌∷◌}
-use Rattle.growth_rules.proofs.SoundRowLaws.{keeps_rules}
 use Rattle.growth_rules.proofs.SoundLaws.{sound_extends}
-use Rattle.growth_rules.proofs.RankedLaws.{ranked}
 use Rattle.growth_rules.proofs.laws.sound_set_extends.Goals as goal
 
 pub returns : goal.returns
-returns c = λ x xs sound x' appended own. sound_extends x xs sound x' appended (ranked x xs (keeps_rules (x ∷ xs) sound)) own
+returns c = λ x xs sound x' appended. sound_extends x xs sound x' appended
