@@ -1,6 +1,6 @@
 pub mod OneRequiresCode
 pub mod OneRequiresLaws
-mod FoundLaws
+pub mod FoundLaws
 mod WholeLaws
-mod RootLaws
-mod BaseLaws
+pub mod RootLaws
+pub mod BaseLaws
