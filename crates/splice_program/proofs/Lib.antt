@@ -1,0 +1,13 @@
+mod SmallLaws
+mod PlaceLaws
+mod GroupsLaws
+mod RuntimeLaws
+mod NextCode
+mod NextSeams
+mod SeamLaws
+mod NextLaws
+mod IncLaws
+mod HeightLaws
+mod KeptLaws
+mod MeetLaws
+mod WholeLaws
