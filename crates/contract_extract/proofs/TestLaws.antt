@@ -1,6 +1,6 @@
 -- The first refusal, place by place.
-use Rattle.std.proofs.Common.{◌≡◌, ℕ, suc, ◌+◌, ◌<◌, Bool, true, false, List, [], ◌∷◌, ◌++◌, length, get_or, drop, refl, sym, ap, ◌∙◌, arith, cond}
-use Rattle.std.specs.Prelude.{Option, Some, None, is_some}
+use Rattle.std.proofs.Common.{◌≡◌, ℕ, zero, suc, subst, ◌+◌, ◌<◌, Bool, true, false, List, [], ◌∷◌, ◌++◌, length, get_or, drop, refl, sym, ap, ◌∙◌, arith, cond}
+use Rattle.std.specs.Prelude.{Option, Some, None, is_some, slice_get}
 use Rattle.std.specs.List.{enumerate_from, flat_map}
 use Rattle.std.proofs.Math.Seq.{drop-cons}
 use Rattle.cil_base.specs.declared.refusal.Refusal.{Refusal}
@@ -31,3 +31,12 @@ first-drop f is k i h e =
     let one : suc k ≡ k + 1 = omega arith in
     ap (λ (js : List Instr). first_of (flat_map f (enumerate_from k js))) (drop-cons is k i h ∙ ap (λ (j : Instr). j ∷ drop (suc k) is) (sym e) ∙ ap (λ (n : ℕ). i ∷ drop n is) one)
     ∙ first_of-append (f (k, i)) (flat_map f (enumerate_from (k + 1) (drop (k + 1) is)))
+
+below : (l : List Instr) (n : ℕ) (i : Instr) → Some i ≡ slice_get l n → n < length l
+below [] n i h = absurd cc
+below (x ∷ xs) zero i h = omega arith
+below (x ∷ xs) (suc n) i h = let e = below xs n i h in omega arith
+
+-- a place at which an instruction stands lies in the code
+pub stands_within : (is js : List Instr) (k : ℕ) (i : Instr) → js ≡ is → Some i ≡ slice_get js k → k < length is
+stands_within is js k i e h = subst (λ (l : List Instr). k < length l) e (below js k i h)

@@ -2,4 +2,8 @@ pub mod Clauses
 pub mod Exceptions
 pub mod OwnContract
 pub mod Rules
+pub mod Reach
 pub mod Methods
+pub mod Locals
+pub mod Halving
+pub mod Marks

@@ -1,18 +1,21 @@
 // The contract block of a body: its parts, the ranges of its old values, and its closure locals.
 
 ghost use Rattle.std.specs.Prelude.{◌≡◌, ◌<◌, ◌^◌, length, option_copied};
-ghost use Rattle.std.specs.List.{list_any};
 ghost use Rattle.contract_parts.specs.Flow.{last_argument};
-ghost use Rattle.contract_parts.specs.Parts.{lead_end, rest_from, segments, is_it, stored, written};
+ghost use Rattle.contract_parts.specs.Parts.{lead_end, rest_from, segments};
 ghost use Rattle.contract_parts.specs.Closures.{is_closure};
-ghost use Rattle.contract_extract.specs.Rules.{segment_at, segment_from, lead_writes, lead_stores, block_writes, rest_stores, is_in_block, read_breaks_6};
+ghost use Rattle.contract_extract.specs.Rules.{segment_at, segment_from, is_in_block, read_breaks_6};
+ghost use Rattle.contract_extract.specs.Marks.{AreLocals, IsReach};
 
+use crate::halving::ended_before;
+use crate::part_locals::PartLocals;
+use crate::reach::Reach;
 use cil_model::Instr;
-use contract_parts::{Closures, Code, Segment, is_it, part, segment_at, stored, written};
+use contract_parts::{Closures, Code, Segment};
 use std::marker::Model;
 
-/// The parts of a body: where its lead-in ends and its rest begins, its segments, and its closure
-/// locals.
+/// The parts of a body: where its lead-in ends and its rest begins, its segments, its closure
+/// locals, the locals that its parts store, and how far its branches and regions reach.
 #[derive(Drop)]
 pub struct Block<'a> {
     pub(crate) code: &'a Code<'a>,
@@ -20,6 +23,8 @@ pub struct Block<'a> {
     pub(crate) rest: u32,
     pub(crate) segment_list: &'a [Segment],
     pub(crate) closures: &'a Closures<'a>,
+    pub(crate) locals: &'a PartLocals,
+    pub(crate) reach: &'a Reach,
 }
 
 impl<'a> Model for Block<'a> {
@@ -28,6 +33,7 @@ impl<'a> Model for Block<'a> {
     ghost use Rattle.cil_model.specs.contracts.ty.Ty as ty;
     ghost use Rattle.contract_parts.specs.Flow.{Code};
     ghost use Rattle.contract_parts.specs.Parts.{lead_end, rest_from, segments};
+    ghost use Rattle.contract_extract.specs.Marks.{AreLocals, IsReach};
 
     ghost Value = { Code };
 
@@ -39,21 +45,9 @@ impl<'a> Model for Block<'a> {
         (b.lead ≡ lead_end b.code.now)
         × (b.rest ≡ rest_from b.code.now)
         × (b.segment_list.now ≡ segments b.code.now)
-        × (b.closures.now ≡ b.code.now) };
-}
-
-/// Whether one of the instructions stores a local or takes its address.
-fn writes(instrs: &[Instr], k: u32) -> bool
-    ensures { result ≡ list_any (λ i. is_it k (written i)) instrs.now }
-{
-    instrs.iter().any(|instr| is_it(k, written(instr)))
-}
-
-/// Whether one of the instructions stores a local.
-fn stores(instrs: &[Instr], k: u32) -> bool
-    ensures { result ≡ list_any (λ i. is_it k (stored i)) instrs.now }
-{
-    instrs.iter().any(|instr| is_it(k, stored(instr)))
+        × (b.closures.now ≡ b.code.now)
+        × AreLocals b.code.now b.locals.now
+        × IsReach b.code.now b.reach.now };
 }
 
 impl<'a> Block<'a> {
@@ -63,11 +57,15 @@ impl<'a> Block<'a> {
         parts: (u32, u32),
         segment_list: &'a [Segment],
         closures: &'a Closures<'a>,
+        locals: &'a PartLocals,
+        reach: &'a Reach,
     ) -> Block<'a>
         requires lead { parts.0 ≡ lead_end code.now }
         requires rest { parts.1 ≡ rest_from code.now }
         requires segments { segment_list.now ≡ segments code.now }
         requires closures { closures.now ≡ code.now }
+        requires locals { AreLocals code.now locals.now }
+        requires reach { IsReach code.now reach.now }
         ensures { result ≡ code.entry.now }
     {
         let (lead, rest) = parts;
@@ -77,6 +75,8 @@ impl<'a> Block<'a> {
             rest,
             segment_list,
             closures,
+            locals,
+            reach,
         }
     }
 
@@ -121,58 +121,45 @@ impl<'a> Block<'a> {
     }
 
     /// The segment in which a place lies.
+    #[tactic(auto, using(crate::proofs::SegmentLaws::segments_rise))]
     pub fn segment_at(&self, place: u32) -> Option<&'a Segment>
         ensures { option_copied result ≡ segment_at self.now place }
     {
-        segment_at(self.segment_list, place)
+        let segments = self.segments();
+        match segments.get(ended_before(segments, place)) {
+            Some(segment) => {
+                if segment.from <= place {
+                    Some(segment)
+                } else {
+                    None
+                }
+            }
+            None => None,
+        }
     }
 
     /// The segment that begins at a place.
+    #[tactic(auto, using(crate::proofs::SegmentLaws::segment_begins))]
     pub fn segment_from(&self, place: u32) -> Option<&'a Segment>
         ensures { option_copied result ≡ segment_from self.now place }
     {
-        self.segment_list
-            .iter()
-            .find(|segment| segment.from == place)
-    }
-
-    pub fn lead_writes(&self, k: u32) -> bool
-        ensures { result ≡ lead_writes self.now k }
-    {
-        let code = self.code;
-        writes(part(code.instrs(), 0, self.lead as usize), k)
-    }
-
-    pub fn lead_stores(&self, k: u32) -> bool
-        ensures { result ≡ lead_stores self.now k }
-    {
-        let code = self.code;
-        stores(part(code.instrs(), 0, self.lead as usize), k)
-    }
-
-    pub fn block_writes(&self, k: u32) -> bool
-        ensures { result ≡ block_writes self.now k }
-    {
-        let code = self.code;
-        writes(
-            part(code.instrs(), self.lead as usize, self.rest as usize),
-            k,
-        )
-    }
-
-    pub fn rest_stores(&self, k: u32) -> bool
-        ensures { result ≡ rest_stores self.now k }
-    {
-        let code = self.code;
-        let instrs = code.instrs();
-        stores(part(instrs, self.rest as usize, instrs.len()), k)
+        match self.segment_at(place) {
+            Some(segment) => {
+                if segment.from == place {
+                    Some(segment)
+                } else {
+                    None
+                }
+            }
+            None => None,
+        }
     }
 
     /// C6 in the rest: a local is read that only segments store.
     pub fn read_breaks_6(&self, place: u32, k: u32) -> bool
         ensures { result ≡ read_breaks_6 self.now place k }
     {
-        self.rest <= place && self.block_writes(k) && !(self.lead_stores(k) || self.rest_stores(k))
+        self.rest <= place && self.block_writes(k) && !self.stores_outside(k)
     }
 
     pub fn is_in_block(&self, place: u32) -> bool

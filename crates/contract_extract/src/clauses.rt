@@ -4,12 +4,14 @@ ghost use Rattle.std.specs.Prelude.{◌≡◌, ◌<◌, ◌==◌, map, length, I
 ghost use Rattle.std.specs.List.{list_any, filter_map};
 ghost use Rattle.contract_parts.specs.Parts.{segments, segment_code};
 ghost use Rattle.contract_parts.specs.Flow.{placed};
-ghost use Rattle.contract_extract.specs.Clauses.{with_local, locals_named, setup, code_of, local_type, clause_instrs, clause_locals, old_from, old_at, clause_olds};
+ghost use Rattle.contract_extract.specs.Clauses.{locals_named, setup, code_of, local_type, clause_instrs, clause_locals, old_from, old_at, clause_olds};
 ghost use Rattle.contract_extract.specs.OwnContract.{ended, checked, clauses_in, inlines, label_of, inline_labels, has_message_at, exception_at, bare_clause, inline_clause, clause_of};
 
 use crate::block::Block;
 use crate::clause::{argument_type, exception_of, has_message};
+use crate::halving::calls_within;
 use crate::labels::label;
+use crate::locals::{Locals, Use};
 use crate::moves::{all_with_locals, moved, push_moved};
 use crate::numbers::{Counted, Ended, count_all};
 use cil_base::Name;
@@ -18,34 +20,11 @@ use cil_semantics::ContractCall;
 use contract_parts::{Segment, checked_kind, copy_all, named};
 use std::alloc::{AllocError, Global};
 
-fn has_local(locals: &[u32], k: u32) -> bool
-    ensures { result ≡ list_any (λ j. j == k) locals.now }
-{
-    locals.iter().any(|j| *j == k)
-}
-
-/// Adds a local, unless it is there.
-fn add_local(locals: &mut Vec<u32>, k: u32) -> Result<(), AllocError>
-    ensures { OnOk result (locals.new.items ≡ with_local locals.old.items k) }
-{
-    if has_local(locals, k) {
-        return Ok(());
-    }
-    locals.push(k)?;
-    Ok(())
-}
-
 /// The locals that instructions name, each once.
-fn locals_named(alloc: Global, instrs: &[Instr]) -> Result<Vec<u32>, AllocError>
-    ensures { IfOk result (λ out. out.items ≡ locals_named instrs.now) }
+fn locals_named(alloc: Global, instrs: &[Instr]) -> Result<Locals, AllocError>
+    ensures { IfOk result (λ locals. locals ≡ locals_named instrs.now) }
 {
-    let mut out = Vec::new(alloc);
-    for instr in instrs {
-        if let Some(k) = named(instr) {
-            add_local(&mut out, k)?;
-        }
-    }
-    Ok(out)
+    Locals::used(alloc, Use::Names, instrs)
 }
 
 fn old_from(
@@ -77,7 +56,7 @@ impl<'a> Block<'a> {
         ensures { IfOk result (λ out. (out.0 ≡ code_of self.now segment.now) × (out.1 ≡ length (setup self.now segment.now))) }
     {
         let instrs = self.segment_code(segment);
-        let locals = locals_named(alloc, instrs)?;
+        let locals = locals_named(alloc, instrs)?.listed(alloc)?;
         let mut out = self.closures().setups(alloc, &locals)?;
         let setup = out.len();
         push_moved(alloc, &mut out, setup, segment, instrs)?;
@@ -99,11 +78,12 @@ impl<'a> Block<'a> {
         }
     }
 
-    fn local_types(&self, alloc: Global, locals: &[u32]) -> Result<TyRefs, AllocError>
+    fn local_types(&self, alloc: Global, locals: &Locals) -> Result<TyRefs, AllocError>
         ensures { IfOk result (λ out. out ≡ filter_map (local_type self.now) locals.now) }
     {
+        let numbers = locals.listed(alloc)?;
         let mut out = TyRefs::new(alloc);
-        for k in locals {
+        for k in &numbers {
             if let Some(ty) = self.local_type(*k) {
                 out.push(ty)?;
             }
@@ -169,6 +149,7 @@ impl<'a> Block<'a> {
     }
 
     /// The labels of the Assert and Assume calls within a segment.
+    #[tactic(auto, using(crate::proofs::CheckLaws::rise_of, crate::proofs::CheckLaws::labels_within))]
     fn inline_labels(
         &self,
         alloc: Global,
@@ -178,11 +159,10 @@ impl<'a> Block<'a> {
         requires { calls.now ≡ inlines self.now }
         ensures { IfOk result (λ names. names ≡ inline_labels self.now segment.now) }
     {
+        let within = calls_within(calls, segment);
         let mut names = Names::new(alloc);
-        for one in calls {
-            if segment.holds(one.segment.at) {
-                names.push(self.label_of(alloc, one)?)?;
-            }
+        for one in within {
+            names.push(self.label_of(alloc, one)?)?;
         }
         Ok(names)
     }

@@ -7,6 +7,8 @@ ghost use Rattle.contract_extract.specs.OwnContract.{own_contract};
 ghost use Rattle.contract_extract.specs.Rules.{tests};
 
 use crate::block::Block;
+use crate::part_locals::PartLocals;
+use crate::reach::Reach;
 use cil_base::Fault;
 use cil_model::Contract;
 use contract_parts::{
@@ -50,7 +52,9 @@ fn contract_with_lead(alloc: Global, lead: &LeadIn, calls: &[u32]) -> Result<Con
     let closures = Closures::new(lead, &made);
     let segments = segments_from(alloc, lead.end(), calls)?;
     let parts = (lead.end(), rest_behind(calls));
-    let block = Block::new(lead.code(), parts, &segments, &closures);
+    let locals = PartLocals::new(alloc, lead.code(), parts.0, parts.1)?;
+    let reach = Reach::new(alloc, lead.code())?;
+    let block = Block::new(lead.code(), parts, &segments, &closures, &locals, &reach);
     checked_contract(alloc, &block)
 }
 

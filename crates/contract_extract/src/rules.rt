@@ -1,6 +1,6 @@
 // The rules on contract blocks, each at a place.
 
-ghost use Rattle.std.specs.Prelude.{◌≡◌, ◌<◌, ◌≤◌, ◌^◌, ◌+◌, ◌-◌, ◌&&◌, ◌||◌, false, not, nat_lt, nat_le, length};
+ghost use Rattle.std.specs.Prelude.{◌≡◌, ◌<◌, ◌≤◌, ◌^◌, ◌+◌, ◌-◌, ◌&&◌, ◌||◌, false, not, length, IsTrue};
 ghost use Rattle.std.specs.List.{list_any, slice_range};
 ghost use Rattle.cil_base.specs.Refusals.{first_of};
 ghost use Rattle.cil_semantics.specs.Lookups.{method_of, type_of};
@@ -9,54 +9,18 @@ ghost use Rattle.cil_semantics.specs.Words.{maybe};
 ghost use Rattle.cil_semantics.specs.ContractCalls.{contract_call};
 ghost use Rattle.contract_extract.specs.OwnContract.{ended_at};
 ghost use Rattle.contract_parts.specs.Parts.{segment_instrs, segment_code, is_nop, is_throw, is_it, stored};
-ghost use Rattle.contract_extract.specs.Rules.{has_place, crosses, is_generated, breaks_1, meets, is_ret, is_left_empty, drops_code, segment_breaks_2, breaks_2, breaks_3, breaks_5, may_name_result, is_ensures, is_postcondition, kind_at, outside_range, isnt_of_entry, is_stored_by, range_breaks_4, old_breaks_4, breaks_4, range_holds, named_breaks_6, is_in_old, breaks_6, segment_from, breaks_7, place_of, tests_at, tests};
+ghost use Rattle.contract_extract.specs.Rules.{is_generated, breaks_1, meets, is_ret, is_left_empty, drops_code, segment_breaks_2, breaks_2, breaks_3, breaks_5, may_name_result, is_ensures, is_postcondition, kind_at, outside_range, isnt_of_entry, is_stored_by, range_breaks_4, old_breaks_4, breaks_4, range_holds, named_breaks_6, is_in_old, breaks_6, segment_from, breaks_7, place_of, tests_at, tests};
 
 use crate::block::Block;
 use crate::clause::has_exception;
 use crate::exceptions::has_wrong_type;
 use cil_base::{Place, Refusal, Rule};
-use cil_model::{ClauseKind, Instr, Operand, Program, Region};
+use cil_model::{ClauseKind, Instr, Program};
 use cil_semantics::ContractCall;
 use contract_parts::{
     Segment, contract_call, ended_kind, ends_block, has_result, is_it, is_nop, is_prefix, is_throw,
     named, part, read, stored,
 };
-
-/// The instruction at a place is part of a region.
-fn has_place(place: u32, region: &Region) -> bool
-    ensures { result ≡ has_place place region.now }
-{
-    (region.try_from <= place && place < region.try_to)
-        || (region.handler_from <= place && place < region.handler_to)
-}
-
-/// A region has a part in a range of places.
-fn meets(from: u32, to: u64, region: &Region) -> bool
-    ensures { result ≡ meets from to region.now }
-{
-    (from < region.try_to && u64::from(region.try_from) < to)
-        || (from < region.handler_to && u64::from(region.handler_from) < to)
-}
-
-fn target_crosses(call: u32, place: u32, target: u32) -> bool
-    ensures { result ≡ ((nat_lt place call && nat_lt call target) || (nat_lt call place && nat_le target call)) }
-{
-    (place < call && call < target) || (call < place && target <= call)
-}
-
-/// A branch leads from before a call to behind it, or from behind it to it or before it.
-fn crosses(call: u32, place: u32, instr: &Instr) -> bool
-    ensures { result ≡ crosses call (place, instr.now) }
-{
-    match &instr.operand {
-        Operand::Target(target) => target_crosses(call, place, *target),
-        Operand::Targets(targets) => targets
-            .as_slice()
-            .iter()
-            .any(|target| target_crosses(call, place, *target)),
-        _ => false,
-    }
-}
 
 fn is_ret(instr: &Instr) -> bool
     ensures { result ≡ is_ret instr.now }
@@ -158,28 +122,9 @@ impl<'a> Block<'a> {
         }
     }
 
-    fn is_crossed(&self, call: u32) -> bool
-        ensures { result ≡ list_any (crosses call) (placed self.now) }
-    {
-        let instrs = self.instrs();
-        let mut crossed = false;
-        let mut place = 0;
-        for instr in instrs {
-            crossed = crossed || crosses(call, place, instr);
-            place += 1;
-        }
-        crossed
-    }
-
-    fn is_in_region(&self, place: u32) -> bool
-        ensures { result ≡ list_any (has_place place) self.now.body.regions }
-    {
-        let code = self.code;
-        code.regions().iter().any(|region| has_place(place, region))
-    }
-
     /// C1: a prefix call inside a region, crossed by a branch, or in code that a compiler made.
     fn breaks_1(&self, place: u32, instr: &Instr) -> bool
+        requires { place < length self.now.body.instrs }
         ensures { result ≡ breaks_1 self.now (place, instr.now) }
     {
         let code = self.code;
@@ -190,8 +135,10 @@ impl<'a> Block<'a> {
     }
 
     /// A path reaches the segment's prefix call, which leaves nothing on the stack.
+    #[tactic(auto, using(crate::proofs::TestLaws::stands_within))]
     fn is_left_empty(&self, segment: &Segment) -> bool
-        ensures { result ≡ is_left_empty self.now segment.now }
+        ensures told { result ≡ is_left_empty self.now segment.now }
+        ensures within { IsTrue result → segment.now.at < length self.now.body.instrs }
     {
         let code = self.code;
         match self.instrs().get(segment.at as usize) {
@@ -202,10 +149,10 @@ impl<'a> Block<'a> {
 
     /// The segment holds a part of a region.
     fn holds_region(&self, segment: &Segment) -> bool
+        requires { segment.now.at < length self.now.body.instrs }
         ensures { result ≡ list_any (meets segment.now.from (segment.now.at + 1)) self.now.body.regions }
     {
-        let code = self.code;
-        code.regions().iter().any(|region| meets(segment.from, segment.at as u64 + 1, region))
+        self.meets_region(segment.from, segment.at)
     }
 
     fn holds_ret(&self, segment: &Segment) -> bool
