@@ -1,7 +1,7 @@
 -- Own contracts of small methods, computed.
 use Rattle.std.proofs.Common.{refl}
 use Rattle.contract_rows.specs.Everything.{everything}
-use Rattle.contract_rows.specs.Rows.{AccountConstructorHasALeadIn, AccountTakeHasTwoClauses, AccountInvariantIsAClause, AccountBreaksNoRule, IfThrowIsLeadIn, EndContractBlockIsNoClause, LabelsCountRequiresTogether, MessageIsAStaticField, EachClauseHasItsOwnLocals, AssertsAreNumberedOverTheBody, ClauseSetsUpItsClosure, ThoseBreakNoRule, CrossedCallsBreak1, BadSegmentsBreak2, StrayCallsBreak3, BadOldValuesBreak4, ThrowInASegmentBreaks5, SharedLocalsBreak6, WrongTypesBreak7, WrongTypesOfEnsuresOnThrowBreak7, ExceptionsThatCantBeMadeBreak7, CallInAHandlerBreaks2And1, InnerClosureIsSetUpFirst}
+use Rattle.contract_rows.specs.Rows.{AccountConstructorHasALeadIn, AccountTakeHasTwoClauses, AccountInvariantIsAClause, AccountBreaksNoRule, IfThrowIsLeadIn, EndContractBlockIsNoClause, LabelsCountRequiresTogether, MessageIsAStaticField, EachClauseHasItsOwnLocals, AssertsAreNumberedOverTheBody, ClauseSetsUpItsClosure, ThoseBreakNoRule, CrossedCallsBreak1, BadSegmentsBreak2, StrayCallsBreak3, BadOldValuesBreak4, ThrowInASegmentBreaks5, SharedLocalsBreak6, WrongTypesBreak7, WrongTypesOfEnsuresOnThrowBreak7, ExceptionsThatCantBeMadeBreak7, CallInAHandlerBreaks2And1, RegionInTwoSegmentsBreaks2, BranchesWithinASegmentBreakNothing, InnerClosureIsSetUpFirst}
 
 pub account_constructor_has_a_lead_in : AccountConstructorHasALeadIn
 unfolding everything
@@ -94,3 +94,11 @@ exceptions_that_cant_be_made_break_7 = refl
 pub call_in_a_handler_breaks_2_and_1 : CallInAHandlerBreaks2And1
 unfolding everything
 call_in_a_handler_breaks_2_and_1 = refl
+
+pub region_in_two_segments_breaks_2 : RegionInTwoSegmentsBreaks2
+unfolding everything
+region_in_two_segments_breaks_2 = refl
+
+pub branches_within_a_segment_break_nothing : BranchesWithinASegmentBreakNothing
+unfolding everything
+branches_within_a_segment_break_nothing = refl

@@ -2,7 +2,7 @@
 use Rattle.std.specs.Prelude.{◌≡◌, ℕ, List, [], ◌∷◌, ◌++◌, Some, None, codes, true, false, map}
 use Rattle.cil_base.specs.declared.rule.Rule.TheVariants.{C1, C2, C3, C4, C5, C6, C7}
 use Rattle.cil_model.specs.declared.body.Instr.{Instr}
-use Rattle.cil_model.specs.declared.body.Operand.TheVariants.{Index}
+use Rattle.cil_model.specs.declared.body.Operand.TheVariants.{Index, Targets}
 use Rattle.cil_model.specs.declared.body.Region.{Region}
 use Rattle.cil_model.specs.declared.body.RegionKind.TheVariants as region
 use Rattle.cil_model.specs.declared.contract.Clause.{Clause}
@@ -244,25 +244,45 @@ a_try from to end = record { kind = region.Finally; try_from = from; try_to = to
 abbrev pub generated_instrs : List Instr
 generated_instrs = int 1 ∷ requires ∷ ret ∷ []
 
+-- switch (ECMA-335, III.3.66)
+abbrev pub a_switch : List ℕ → Instr
+a_switch targets = instr 0x45 (Targets targets)
+
 abbrev pub breaking_1 : List Code
 breaking_1 =
     -- the contract block is crossed by a branch ahead, by one back, and by one back to the call
     static_code (ldarg 0 ∷ jump 0x3A 4 ∷ ldarg 0 ∷ requires ∷ ldarg 0 ∷ ret ∷ []) []
     ∷ static_code (ldarg 0 ∷ requires ∷ ldarg 0 ∷ jump 0x3A 0 ∷ ldarg 0 ∷ ret ∷ []) []
     ∷ static_code (ldarg 0 ∷ requires ∷ ldarg 0 ∷ ldarg 0 ∷ jump 0x3A 1 ∷ ret ∷ []) []
+    -- a switch crosses it with one of its targets
+    ∷ static_code (ldarg 0 ∷ a_switch (2 ∷ 4 ∷ []) ∷ ldarg 0 ∷ requires ∷ ldarg 0 ∷ ret ∷ []) []
     -- a compiler made the method, and its class
     ∷ code (sample (codes "T") (record (method 0 (codes "M") [] void_ty (body generated_instrs [] None)) { generated = true })) generated_instrs []
     ∷ code (sample_made (codes "T") (method 0 (codes "M") [] void_ty (body generated_instrs [] None))) generated_instrs []
     ∷ []
 
 abbrev pub CrossedCallsBreak1 : Type 0
-CrossedCallsBreak1 = map first_broken breaking_1 ≡ Some (C1, 3) ∷ Some (C1, 1) ∷ Some (C1, 1) ∷ Some (C1, 1) ∷ Some (C1, 1) ∷ []
+CrossedCallsBreak1 = map first_broken breaking_1 ≡ Some (C1, 3) ∷ Some (C1, 1) ∷ Some (C1, 1) ∷ Some (C1, 3) ∷ Some (C1, 1) ∷ Some (C1, 1) ∷ []
+
+-- Branches within a segment cross no call: a switch before it, and a branch back before it.
+abbrev pub BranchesWithinASegmentBreakNothing : Type 0
+BranchesWithinASegmentBreakNothing =
+    map first_broken
+    (static_code (ldarg 0 ∷ a_switch (2 ∷ 2 ∷ []) ∷ ldarg 0 ∷ requires ∷ ldarg 0 ∷ ret ∷ []) []
+    ∷ static_code (bare 0 ∷ ldarg 0 ∷ jump 0x3A 0 ∷ ldarg 0 ∷ requires ∷ ldarg 0 ∷ ret ∷ []) [] ∷ [])
+    ≡ None ∷ None ∷ []
 
 -- A call in a handler breaks the first rule at its place. Its segment begins before, where it breaks the second.
 abbrev pub CallInAHandlerBreaks2And1 : Type 0
 CallInAHandlerBreaks2And1 =
     all_broken (static_code (bare 0 ∷ jump 0xDD 5 ∷ int 1 ∷ requires ∷ bare 0xDC ∷ ldarg 0 ∷ ret ∷ []) (a_try 0 2 5 ∷ []))
     ≡ (C2, 0) ∷ (C1, 3) ∷ []
+
+-- A region of which one segment holds the try block and the next one the handler: each segment breaks the second rule, and the branch over the call the first.
+abbrev pub RegionInTwoSegmentsBreaks2 : Type 0
+RegionInTwoSegmentsBreaks2 =
+    all_broken (static_code (bare 0 ∷ jump 0xDD 5 ∷ ldarg 0 ∷ requires ∷ bare 0xDC ∷ ldarg 0 ∷ requires ∷ ldarg 0 ∷ ret ∷ []) (record (a_try 0 2 5) { handler_from = 4 } ∷ []))
+    ≡ (C2, 0) ∷ (C1, 3) ∷ (C2, 4) ∷ []
 
 abbrev pub breaking_2 : List Code
 breaking_2 =
@@ -298,17 +318,21 @@ breaking_3 =
     ∷ static_code (ldarg 0 ∷ value_at_return ∷ requires ∷ ldarg 0 ∷ ret ∷ []) []
     ∷ void_code (ldarg 0 ∷ requires ∷ int 1 ∷ old_value ∷ bare 0x26 ∷ ret ∷ []) []
     ∷ void_code (ldarg 0 ∷ requires ∷ int 1 ∷ value_at_return ∷ bare 0x26 ∷ ret ∷ []) []
+    -- Result in the lead-in, and OldValue where Assert ends no segment
+    ∷ static_code (result ∷ jump 0x3A 4 ∷ new_exception ∷ bare 0x7A ∷ ldarg 0 ∷ requires ∷ ldarg 0 ∷ ret ∷ []) []
+    ∷ static_code (ldarg 0 ∷ requires ∷ ldarg 0 ∷ old_value ∷ assert_call ∷ ldarg 0 ∷ ret ∷ []) []
     -- Invariant in another method
     ∷ static_code (ldarg 0 ∷ invariant_call ∷ ldarg 0 ∷ ret ∷ []) []
     -- an abbreviator without a result may name one, and EnsuresOnThrow has old values
     ∷ code (sample (codes "T") (record (method 0 (codes "M") [] void_ty (body named_result [] None)) { abbreviator = true })) named_result []
     ∷ static_code (ldarg 0 ∷ old_value ∷ on_throw ∷ ldarg 0 ∷ ret ∷ []) []
+    ∷ static_code (result ∷ ldarg 0 ∷ value_at_return ∷ bare 0xFE01 ∷ ensures_call ∷ ldarg 0 ∷ ret ∷ []) []
     ∷ []
 
 abbrev pub StrayCallsBreak3 : Type 0
 StrayCallsBreak3 =
     map first_broken breaking_3
-    ≡ Some (C3, 0) ∷ Some (C3, 0) ∷ Some (C3, 0) ∷ Some (C3, 2) ∷ Some (C3, 1) ∷ Some (C3, 1) ∷ Some (C3, 3) ∷ Some (C3, 3) ∷ Some (C3, 1) ∷ None ∷ None ∷ []
+    ≡ Some (C3, 0) ∷ Some (C3, 0) ∷ Some (C3, 0) ∷ Some (C3, 2) ∷ Some (C3, 1) ∷ Some (C3, 1) ∷ Some (C3, 3) ∷ Some (C3, 3) ∷ Some (C3, 0) ∷ Some (C3, 3) ∷ Some (C3, 1) ∷ None ∷ None ∷ None ∷ []
 
 abbrev pub breaking_4 : List Code
 breaking_4 =
@@ -349,10 +373,20 @@ breaking_6 =
     -- a segment names a local whose address the lead-in takes, and the rest one whose address a segment takes
     ∷ static_code (instr 0xFE0D (Index 0) ∷ bare 0x26 ∷ ldarg 0 ∷ jump 0x3A 6 ∷ new_exception ∷ bare 0x7A ∷ ldloc 0 ∷ requires ∷ ldarg 0 ∷ ret ∷ []) []
     ∷ static_code (instr 0xFE0D (Index 0) ∷ bare 0x4A ∷ requires ∷ ldloc 0 ∷ ret ∷ []) []
+    -- the rest takes the address of a local that only a segment stores, and loads a second one besides
+    ∷ static_code (ldarg 0 ∷ stloc 0 ∷ ldloc 0 ∷ requires ∷ instr 0xFE0D (Index 0) ∷ bare 0x4A ∷ ret ∷ []) []
+    ∷ static_code (ldarg 0 ∷ stloc 1 ∷ ldarg 0 ∷ requires ∷ ldloc 0 ∷ bare 0x26 ∷ ldloc 1 ∷ ret ∷ []) []
+    -- a segment stores a local that the lead-in stores
+    ∷ static_code (ldarg 0 ∷ stloc 0 ∷ ldarg 0 ∷ jump 0x3A 6 ∷ new_exception ∷ bare 0x7A ∷ ldarg 0 ∷ stloc 0 ∷ ldarg 0 ∷ requires ∷ ldarg 0 ∷ ret ∷ []) []
+    -- the rest stores it too, and loads one that nothing stores
+    ∷ static_code (ldarg 0 ∷ stloc 0 ∷ ldloc 0 ∷ requires ∷ ldarg 0 ∷ stloc 0 ∷ ldloc 0 ∷ ret ∷ []) []
+    ∷ static_code (ldarg 0 ∷ requires ∷ ldloc 3 ∷ ret ∷ []) []
     ∷ []
 
 abbrev pub SharedLocalsBreak6 : Type 0
-SharedLocalsBreak6 = map first_broken breaking_6 ≡ Some (C6, 6) ∷ Some (C6, 5) ∷ Some (C6, 5) ∷ Some (C6, 4) ∷ Some (C6, 6) ∷ Some (C6, 3) ∷ []
+SharedLocalsBreak6 =
+    map first_broken breaking_6
+    ≡ Some (C6, 6) ∷ Some (C6, 5) ∷ Some (C6, 5) ∷ Some (C6, 4) ∷ Some (C6, 6) ∷ Some (C6, 3) ∷ Some (C6, 4) ∷ Some (C6, 6) ∷ Some (C6, 7) ∷ None ∷ None ∷ []
 
 abbrev pub of_type_instrs : List Instr
 of_type_instrs = ldarg 0 ∷ requires_of ∷ ldarg 0 ∷ ret ∷ []

@@ -1,6 +1,6 @@
 // Own contracts of small methods, computed from the definitions. The methods stand in `specs/Rows.antt`.
 
-ghost use Rattle.contract_rows.specs.Rows.{AccountConstructorHasALeadIn, AccountTakeHasTwoClauses, AccountInvariantIsAClause, AccountBreaksNoRule, IfThrowIsLeadIn, EndContractBlockIsNoClause, LabelsCountRequiresTogether, MessageIsAStaticField, EachClauseHasItsOwnLocals, AssertsAreNumberedOverTheBody, ClauseSetsUpItsClosure, ThoseBreakNoRule, CrossedCallsBreak1, BadSegmentsBreak2, StrayCallsBreak3, BadOldValuesBreak4, ThrowInASegmentBreaks5, SharedLocalsBreak6, WrongTypesBreak7, WrongTypesOfEnsuresOnThrowBreak7, ExceptionsThatCantBeMadeBreak7, CallInAHandlerBreaks2And1, InnerClosureIsSetUpFirst};
+ghost use Rattle.contract_rows.specs.Rows.{AccountConstructorHasALeadIn, AccountTakeHasTwoClauses, AccountInvariantIsAClause, AccountBreaksNoRule, IfThrowIsLeadIn, EndContractBlockIsNoClause, LabelsCountRequiresTogether, MessageIsAStaticField, EachClauseHasItsOwnLocals, AssertsAreNumberedOverTheBody, ClauseSetsUpItsClosure, ThoseBreakNoRule, CrossedCallsBreak1, BadSegmentsBreak2, StrayCallsBreak3, BadOldValuesBreak4, ThrowInASegmentBreaks5, SharedLocalsBreak6, WrongTypesBreak7, WrongTypesOfEnsuresOnThrowBreak7, ExceptionsThatCantBeMadeBreak7, CallInAHandlerBreaks2And1, RegionInTwoSegmentsBreaks2, BranchesWithinASegmentBreakNothing, InnerClosureIsSetUpFirst};
 
 /// The account: a base constructor's call, a message, an old value, an invariant.
 #[tactic(auto, using(crate::proofs::RowLaws::account_constructor_has_a_lead_in, crate::proofs::RowLaws::account_take_has_two_clauses, crate::proofs::RowLaws::account_invariant_is_a_clause, crate::proofs::RowLaws::account_breaks_no_rule))]
@@ -37,4 +37,6 @@ pub fn broken_rules()
     ensures wrong_types_of_ensures_on_throw_break_7 { WrongTypesOfEnsuresOnThrowBreak7 }
     ensures exceptions_that_cant_be_made_break_7 { ExceptionsThatCantBeMadeBreak7 }
     ensures call_in_a_handler_breaks_2_and_1 { CallInAHandlerBreaks2And1 }
+    ensures region_in_two_segments_breaks_2 { RegionInTwoSegmentsBreaks2 }
+    ensures branches_within_a_segment_break_nothing { BranchesWithinASegmentBreakNothing }
 {}
