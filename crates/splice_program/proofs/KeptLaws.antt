@@ -1,5 +1,5 @@
 -- A method without a contract, whose body is kept, meets the facts; its body has neither regions nor locals.
-use Rattle.std.proofs.Common.{◌≡◌, ℕ, ◌+◌, ◌<◌, true, false, List, [], ◌∷◌, ◌++◌, length, Some, None, refl, sym, ap, ◌∙◌, subst, arith}
+use Rattle.std.proofs.Common.{◌≡◌, ℕ, ◌<◌, true, false, List, [], ◌∷◌, ◌++◌, length, Some, None, refl, sym, ap, ◌∙◌, subst, arith}
 use Rattle.std.specs.Prelude.{slice_get, option_map}
 use Rattle.cil_model.specs.declared.body.Body.{Body}
 use Rattle.cil_model.specs.declared.body.Instr.{Instr}

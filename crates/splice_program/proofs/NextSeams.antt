@@ -29,7 +29,7 @@ use Rattle.throw_laws.specs.ThrowCode.{ThrowCode, AgainAt}
 use Rattle.throw_laws.specs.WrapperCode.{WrapperCode}
 use Rattle.splice_rows.specs.OneRequires.{token}
 use Rattle.splice_program.specs.Program.{input, contracts, numbers, first_of, next_plan, next_code, next_ensures, next_throws, a_piece, the_capture}
-use Rattle.splice_program.specs.Written.{output, next_marks, next_behind, next_regions, a_finally, catches_all}
+use Rattle.splice_program.specs.Written.{output, next_marks, next_regions, a_finally, catches_all}
 use Rattle.splice_program.proofs.GroupsLaws.{FullCode}
 use Rattle.splice_program.proofs.PlaceLaws.{some_is, not_some, Past, past, each_piece, entry_piece, exit_piece, throw_piece, invariant_piece}
 use Rattle.splice_program.proofs.NextCode.{Means, call_means, unchecked, reporting, entry_frame, throw_frame, entry_code, exit_code_of, invariant_code_of}
