@@ -1,3 +1,6 @@
 pub mod BestLaws
 pub mod FoundLaws
 pub mod OnceLaws
+pub mod EndLaws
+pub mod PlainLaws
+pub mod PlainOwnLaws

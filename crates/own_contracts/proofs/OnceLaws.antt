@@ -30,7 +30,7 @@ module _ (p : Program) (m : ℕ) (heights : HaveHeights p) where
   own_of_none None c e f = f
   own_of_none (Some b) c e f = absurd cc
 
-  own_of_some : (o : Option Body) (c : Contract) → IsSome o → HasContract p m c → MatchOption o (c ≡ no_contract) (λ b. HasContract p m c)
+  pub own_of_some : (o : Option Body) (c : Contract) → IsSome o → HasContract p m c → MatchOption o (c ≡ no_contract) (λ b. HasContract p m c)
   own_of_some None c h f = absurd cc
   own_of_some (Some b) c h f = f
 

@@ -3,13 +3,16 @@ ghost use Rattle.std.specs.Prelude.{◌≡◌, ◌<◌, ◌^◌, is_some, length
 ghost use Rattle.cil_base.specs.Refusals.{First, NoneBroken, OnRefused};
 ghost use Rattle.cil_semantics.specs.Lookups.{method_of};
 ghost use Rattle.cil_semantics.specs.Unwind.{body_of};
+ghost use Rattle.own_contracts.specs.Calls.{has_call, is_call};
 ghost use Rattle.own_contracts.specs.Own.{no_contract, AreOwn, AreShort, BreaksAt, BreaksOwn, HaveHeights, IsOwn};
 ghost use Rattle.own_contracts.specs.Taken.{Takes};
 
 use crate::order::earlier;
 use cil_base::{Fault, Refusal};
-use cil_model::{Clauses, Contract, ContractList, Program};
+use cil_model::{Clauses, Contract, ContractList, Instr, Program};
+use cil_semantics::ContractCall;
 use contract_extract::own_contract;
+use contract_parts::contract_call;
 use std::alloc::{AllocError, Global};
 
 /// What a method without a body says.
@@ -44,7 +47,35 @@ fn has_body(program: &Program, m: u32) -> bool
     }
 }
 
-/// The own contract of a method, or what its body breaks first.
+fn is_call(call: ContractCall) -> bool
+    ensures { result ≡ is_call call }
+{
+    !matches!(call, ContractCall::NoContractCall)
+}
+
+fn has_call(program: &Program, instrs: &[Instr]) -> bool
+    ensures { result ≡ has_call program.now instrs.now }
+{
+    instrs
+        .iter()
+        .any(|instr| is_call(contract_call(program, instr)))
+}
+
+/// Whether the body of a method has a contract call.
+fn calls_contract(program: &Program, m: u32) -> bool
+    ensures { result ≡ has_call program.now (body_of program.now m).instrs }
+{
+    match program.methods.get(m as usize) {
+        Some(method) => match &method.body {
+            Some(body) => has_call(program, body.instrs.as_slice()),
+            None => false,
+        },
+        None => false,
+    }
+}
+
+/// The own contract of a method, or what its body breaks first. Without a contract call it says
+/// nothing and breaks nothing, so no heights are looked for.
 fn method_contract(alloc: Global, program: &Program, m: u32) -> Result<Contract, Fault>
     requires there { m < length program.now.methods }
     requires heights { HaveHeights program.now }
@@ -54,6 +85,9 @@ fn method_contract(alloc: Global, program: &Program, m: u32) -> Result<Contract,
     ensures refused { OnRefused result (First (BreaksAt program.now m)) }
 {
     if !has_body(program, m) {
+        return Ok(no_contract(alloc));
+    }
+    if !calls_contract(program, m) {
         return Ok(no_contract(alloc));
     }
     own_contract(alloc, program, m)
