@@ -1,7 +1,7 @@
 -- The types of the program of a set name bases, interfaces, fields and methods of the program.
 use Rattle.std.proofs.Common.{◌≡◌, ◌∙◌, sym, ap, refl, subst, arith, ℕ, zero, suc, ◌+◌, ◌<◌, ◌≤◌, List, [], ◌∷◌, length, Bool, true, false, ◌⊎◌, inl, inr}
-use Rattle.std.specs.Prelude.{Option, Some, None, cond, unwrap_or, is_some, slice_get, map, filter, filter_map, flat_map, option_map, option_and_then, ◌==◌, ◌/◌, ◌%◌, ◌&&◌, ◌||◌, if◌then◌else◌}
-use Rattle.std.specs.List.{range_with_len, cons_option, position_from}
+use Rattle.std.specs.Prelude.{Option, Some, None, cond, unwrap_or, is_some, slice_get, map, filter, filter_map, option_map, ◌==◌, ◌/◌, ◌%◌, ◌&&◌, ◌||◌, if◌then◌else◌}
+use Rattle.std.specs.List.{range_with_len, cons_option}
 use Rattle.std.proofs.lemmas.Bool.{cases_lt}
 use Rattle.cil_base.specs.declared.tables.TheConstants.{FIELD, MEMBER_REF, METHOD_DEF, METHOD_IMPL}
 use Rattle.cil_model.specs.declared.ty.Ty.{Ty, out-Ty}
