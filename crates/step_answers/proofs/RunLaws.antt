@@ -46,7 +46,7 @@ module _ (p : Program) (k : Contracts) (ms : List MethodDesc) (g : AddedNumbers)
   laid = laid_by p k ms g r
 
   -- the states of both runs, with what the first keeps
-  record Going (s s' : State) : Type 0 where
+  pub record Going (s s' : State) : Type 0 where
     pub related : R s s'
     pub sound : Sound p k ms g r s
     pub references : References s
@@ -78,10 +78,10 @@ module _ (p : Program) (k : Contracts) (ms : List MethodDesc) (g : AddedNumbers)
   goes_on s s' h (Running u) (Ended o' w') e m v refs = absurd m
   goes_on s s' h (Ended o w) (Running u') e m v refs = absurd m
 
-  abbrev Answer : State → State → Type 0
+  abbrev pub Answer : State → State → Type 0
   Answer s s' = (j : ℕ) × (suc j + weight laid (step p k g s) ≤ bound_of k p + laid s) × Match E Going (step p k g s) (runs (plain_step p') (suc j) s')
 
-  answers : (s s' : State) → Going s s' → Answer s s'
+  pub answers : (s s' : State) → Going s s' → Answer s s'
   answers s s' h = let x = stepped s s' h in by_steps ((x.answer).reaches).steps (x.answer).moves ((x.answer).reaches).most ((x.answer).reaches).same x.sound x.references
     where
       by_steps : (j : ℕ) → 1 ≤ j → j + weight laid (step p k g s) ≤ bound_of k p + laid s → Match E R (step p k g s) (runs (plain_step p') j s') → StaysValid p k ms g r (step p k g s) → KeepsReferences (step p k g s) → Answer s s'
@@ -105,6 +105,20 @@ module _ (p : Program) (k : Contracts) (ms : List MethodDesc) (g : AddedNumbers)
       by_next : (y : Next) → runs (plain_step p') j t ≡ y → Match E R (Running s) y → Lifted (step p k g) (plain_step p') E (bound_of k p) s t
       by_next (Running s') e m = lifts (step p k g) (plain_step p') E Going laid (bound_of k p) simulates j s s' t (record { related = m; sound = sound; references = refs }) e le
       by_next (Ended o w) e m = absurd m
+
+  -- both runs of an entry are in states that go together, the second after some steps
+  pub begins_going : (m : ℕ) (args : List Value) (rs : List Reply) (s : State) → m < r.methods → IsEntry p m args → start p k m args rs ≡ Running s → (s' : State) × Going s s'
+  begins_going m args rs s old entry starts =
+      let a = starts_alike p k ms g r m args rs old in
+      by_start (start p' no_contracts m args rs) a.steps (subst (λ z. Match E R z (and_then (start p' no_contracts m args rs) (runs (plain_step p') a.steps))) starts a.same) (subst (StaysValid p k ms g r) starts (starts_valid p k ms g r m args rs old entry)) (subst KeepsReferences starts (entries_known p k m args rs entry))
+    where
+      by_next : (y : Next) → Match E R (Running s) y → Sound p k ms g r s → References s → (s' : State) × Going s s'
+      by_next (Running s') same sound refs = (s', record { related = same; sound = sound; references = refs })
+      by_next (Ended o w) same sound refs = absurd same
+
+      by_start : (y : Next) (j : ℕ) → Match E R (Running s) (and_then y (runs (plain_step p') j)) → Sound p k ms g r s → References s → (s' : State) × Going s s'
+      by_start (Running t) j same sound refs = by_next (runs (plain_step p') j t) same sound refs
+      by_start (Ended o w) j same sound refs = absurd same
 
   answers_whole : (m : ℕ) (args : List Value) (rs : List Reply) (s : State) → m < r.methods → IsEntry p m args → start p k m args rs ≡ Running s → AnsweredWhole p k ms g r m args rs s
   answers_whole m args rs s old entry starts =
