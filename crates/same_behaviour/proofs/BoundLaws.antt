@@ -34,5 +34,5 @@ effective_same k p0 p kept m l =
 
 pub same_bound : (p0 p : Program) (k : Contracts) (ms : List MethodDesc) (g : AddedNumbers) (r : Rewritten p k ms g) → OfInput p0 p k ms g r → bound_of k p ≡ bound_of k p0
 same_bound p0 p k ms g r x =
-    let kept = x.grown.extends in
+    let kept = x.grows.tables.extends in
     ap (λ n. 64 * (1 + n)) (most_same k p0 p (length p0.methods) (effective_same k p0 p kept) (λ m l. r.appended m (subst (λ n. n ≤ m) (sym x.methods) l)) 0 p0.methods p.methods (omega arith) kept.more_methods)

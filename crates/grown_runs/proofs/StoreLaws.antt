@@ -1,14 +1,14 @@
 -- What a store leaves in a place, and what it begins with, stays for every type.
 use Rattle.std.proofs.Common.{◌≡◌, ℕ, zero, suc, List, [], ◌∷◌, Option, refl, ap, ◌∙◌}
-use Rattle.std.specs.Prelude.{map, option_map, option_and_then}
+use Rattle.std.specs.Prelude.{map, slice_get, slice_set, Some, None, option_map, option_and_then}
 use Rattle.cil_model.specs.declared.ty.Ty.{Ty}
 use Rattle.cil_model.specs.declared.value.Value.{Value, out-Value}
 use Rattle.cil_model.specs.declared.value.Value.TheOpen.{Value-F}
 use Rattle.cil_model.specs.declared.value.Value.TheVariants as value
 use Rattle.cil_model.specs.declared.program.Program.{Program}
-use Rattle.cil_semantics.specs.Places.{Storage, Truncated, Long, NativeInt, Reference, Address, Fields, Opaque, Anything, Void, storage, field_types, each_stored, stored_struct, stored_by_storage, stored_within, default_by_storage, default_within}
-use Rattle.same_behaviour.specs.Behaviour.{IsGrownInput}
-use Rattle.same_behaviour.proofs.KindLaws.{storage_same, fields_same}
+use Rattle.cil_semantics.specs.Places.{Storage, Truncated, Long, NativeInt, Reference, Address, Fields, Opaque, Anything, Void, storage, field_types, each_stored, stored_struct, stored_by_storage, stored_within, default_by_storage, default_within, stored_in, fields_in, field_tys, write_path}
+use Rattle.grown_runs.specs.Grown.{IsGrownInput}
+use Rattle.grown_runs.proofs.PlaceLaws.{storage_same, fields_same}
 
 each_same : (f g : Ty → Value → Option Value) → ((t : Ty) (v : Value) → f t v ≡ g t v) → (ts : List Ty) (vs : List Value) → each_stored f ts vs ≡ each_stored g ts vs
 each_same f g h [] [] = refl
@@ -70,3 +70,39 @@ module _ (p0 p : Program) (h : IsGrownInput p0 p) where
       by_storage again Opaque e = refl
       by_storage again Anything e = refl
       by_storage again Void e = refl
+
+  -- ---- where a path leads in a struct
+
+  stored_here : (t : Ty) (v : Value) → stored_in p t v ≡ stored_in p0 t v
+  stored_here t v = stored_same 1001 t v
+
+  pub path_same : (is : List ℕ) (t : Ty) (new old : Value) → write_path p is t new old ≡ write_path p0 is t new old
+  path_same [] t new old = stored_here t new
+  path_same (i ∷ is) t new old =
+      ap (λ (ts : List Ty). option_and_then (put p) (slice_get ts i)) (fields_seen t) ∙ go (λ u v. path_same is u new v) (slice_get (field_tys (field_types p0 t) (storage p0 t)) i)
+    where
+      put : Program → Ty → Option Value
+      put q ft = option_and_then (λ v. option_map (λ w. value.Struct (slice_set (fields_in (out-Value old)) i w)) (write_path q is ft new v)) (slice_get (fields_in (out-Value old)) i)
+
+      by_storage : (s : Storage) → storage p0 t ≡ s → field_tys (field_types p t) s ≡ field_tys (field_types p0 t) s
+      by_storage (Fields c) e = fields_same p0 p h t c e
+      by_storage (Truncated b s) e = refl
+      by_storage Long e = refl
+      by_storage NativeInt e = refl
+      by_storage Reference e = refl
+      by_storage Address e = refl
+      by_storage Opaque e = refl
+      by_storage Anything e = refl
+      by_storage Void e = refl
+
+      fields_seen : (u : Ty) → field_tys (field_types p t) (storage p t) ≡ field_tys (field_types p0 t) (storage p0 t)
+      fields_seen u = ap (field_tys (field_types p t)) (storage_same p0 p h t) ∙ by_storage (storage p0 t) refl
+
+      go : ((u : Ty) (v : Value) → write_path p is u new v ≡ write_path p0 is u new v) → (o : Option Ty) → option_and_then (put p) o ≡ option_and_then (put p0) o
+      go again None = refl
+      go again (Some ft) = inside (slice_get (fields_in (out-Value old)) i)
+        where
+          inside : (o : Option Value) → option_and_then (λ v. option_map (λ w. value.Struct (slice_set (fields_in (out-Value old)) i w)) (write_path p is ft new v)) o
+              ≡ option_and_then (λ v. option_map (λ w. value.Struct (slice_set (fields_in (out-Value old)) i w)) (write_path p0 is ft new v)) o
+          inside None = refl
+          inside (Some v) = ap (option_map (λ w. value.Struct (slice_set (fields_in (out-Value old)) i w))) (again ft v)

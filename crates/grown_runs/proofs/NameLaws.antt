@@ -15,7 +15,7 @@ use Rattle.cil_semantics.specs.Outside.{is_outside}
 use Rattle.cil_semantics.specs.Calls.{CoreMember, Constructor, Quantifier, NotCore, is_named, is_core_exception, string_member, is_outside_type, are_strings, core_of}
 use Rattle.machine_laws.specs.Answers.{is_below}
 use Rattle.machine_laws.proofs.FindLaws.{answers_alike}
-use Rattle.same_behaviour.specs.Behaviour.{IsGrownInput}
+use Rattle.grown_runs.specs.Grown.{IsGrownInput}
 
 module _ (p0 p : Program) (h : IsGrownInput p0 p) where
   name_out : (o : Ty-F Ty) → maybe true (λ (d : ℕ × List Ty). nat_lt d.0 (length p0.types)) (in_set o) ≡ true → ty_name_at p o ≡ ty_name_at p0 o
@@ -47,7 +47,7 @@ module _ (p0 p : Program) (h : IsGrownInput p0 p) where
       ∙ ap (λ (x : Bool). is_out d0.outside (type_of p0 d0.owner).reference x (is_abstract d)) kept.has_body
       ∙ ap (λ (x : Bool). is_out d0.outside (type_of p0 d0.owner).reference (is_some d0.body) x) kept.abstract_too
 
-  exception_same : (t : Ty) → is_below (length p0.types) t ≡ true → is_core_exception p t ≡ is_core_exception p0 t
+  pub exception_same : (t : Ty) → is_below (length p0.types) t ≡ true → is_core_exception p t ≡ is_core_exception p0 t
   exception_same t e =
       ap (λ (n : Name). any (λ (row : Name × Ty). is_named row.0 n) core_classes && is_sub p t (class_named (codes "System.Exception"))) (name_same t e)
       ∙ ap (λ (b : Bool). any (λ (row : Name × Ty). is_named row.0 (ty_name p0 t)) core_classes && b) ((answers_alike p0 p h.extends h.names_own h.names_none).subs t (class_named (codes "System.Exception")) e)

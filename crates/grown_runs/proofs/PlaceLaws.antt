@@ -16,7 +16,7 @@ use Rattle.cil_semantics.specs.Lookups.{contract_exception, type_of, field_of, i
 use Rattle.cil_semantics.specs.Places.{Fields, Opaque, Reference, own_fields, prim_at, kind_storage, storage_at, storage, field_types}
 use Rattle.machine_laws.specs.Answers.{Each}
 use Rattle.machine_laws.proofs.AnswerLaws.{filter_on, map_on, each_on, each_filter}
-use Rattle.same_behaviour.specs.Behaviour.{IsGrownInput}
+use Rattle.grown_runs.specs.Grown.{IsGrownInput}
 
 module _ (p0 p : Program) (h : IsGrownInput p0 p) where
   old_kind : (j : ℕ) → length p0.types ≤ j → (type_of p0 j).kind ≡ Class

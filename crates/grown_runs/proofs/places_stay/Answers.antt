@@ -1,6 +1,6 @@
-use Rattle.same_behaviour.proofs.KindLaws.{storage_same}
-use Rattle.same_behaviour.proofs.StoreLaws.{stored_same, default_same}
-use Rattle.same_behaviour.proofs.places_stay.Goals as goal
+use Rattle.grown_runs.proofs.PlaceLaws.{storage_same}
+use Rattle.grown_runs.proofs.StoreLaws.{stored_same, default_same}
+use Rattle.grown_runs.proofs.places_stay.Goals as goal
 
 pub returns-clause-kinds : goal.returns-clause-kinds
 returns-clause-kinds c = λ p0 p h t. storage_same p0 p h t

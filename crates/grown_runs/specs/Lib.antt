@@ -1,0 +1,3 @@
+pub mod Grown
+pub mod Looks
+pub mod Runs
