@@ -392,6 +392,15 @@ whole =
       found = λ t s x l old e. found_below input 2 2 overrides_nothing members t s x l e;
     }
 
+-- how many types and methods of the input it speaks of
+pub whole_types : whole.types ≡ 2
+unfolding whole
+whole_types = refl
+
+pub whole_methods : whole.methods ≡ 2
+unfolding whole
+whole_methods = refl
+
 pub meets : Meets
 unfolding everything depths
 meets = record { plan = refl; depths = depths; helpers = helpers; code = code; only = only; facts = facts; spliced = spliced; heights = heights; whole = whole }
