@@ -1,0 +1,3 @@
+pub mod Everything
+pub mod Samples
+pub mod Rows
