@@ -109,7 +109,8 @@ pub fn name_of_method(program: &Program, method: u32) -> &[u8]
     }
 }
 
-fn joined(alloc: Global, owner: &[u8], name: &[u8]) -> Result<Bytes, AllocError>
+/// How a member is told of: its type's name, then its own.
+pub fn member_name(alloc: Global, owner: &[u8], name: &[u8]) -> Result<Bytes, AllocError>
     ensures { IfOk result (λ it. it ≡ acts.member_name owner.now name.now) }
 {
     let mut it = Bytes::from_slice(alloc, owner)?;
@@ -130,11 +131,11 @@ fn handle_of(
         Meaning::OfType(ty) => Ok(Some(Bytes::from_slice(alloc, name_of_type(program, ty))?)),
         Meaning::OfField { owner, field } => {
             let name = name_of_field(program, *field);
-            Ok(Some(joined(alloc, name_of_type(program, owner), name)?))
+            Ok(Some(member_name(alloc, name_of_type(program, owner), name)?))
         }
         Meaning::OfMethod { owner, method, .. } => {
             let name = name_of_method(program, *method);
-            Ok(Some(joined(alloc, name_of_type(program, owner), name)?))
+            Ok(Some(member_name(alloc, name_of_type(program, owner), name)?))
         }
         _ => Ok(None),
     }
@@ -211,7 +212,7 @@ pub fn load_size(meaning: Option<&Meaning>, local: &mut Local) -> Result<Wanted,
 }
 
 /// An equal list of its own.
-pub(crate) fn copied_tys(alloc: Global, tys: &[Ty]) -> Result<Tys, AllocError>
+pub fn copied_tys(alloc: Global, tys: &[Ty]) -> Result<Tys, AllocError>
     ensures { IfOk result (λ copy. copy ≡ tys.now) }
 {
     let mut copies = Tys::new(alloc);
